@@ -1,0 +1,86 @@
+-- The refusal numbers, what a call says, and which refusal is given where several apply. Definitions only. Assumes nothing.
+use Prim.Native.Nat.{ℕ, zero, suc}
+use mathlib.Core.Bool.{Bool, cond}
+use mathlib.Core.List.{List, [], _∷_}
+use mathlib.Core.Path.{_≡_}
+use lib.Ieee.{Float}
+use Rattle.book.specs.declared.Refusal.{Refusal}
+use Rattle.book.specs.declared.Refusal.the-variants.{Size, Length, Qubit, Same, Form, Number, Chance, Record, Session, Early, Full, Room}
+use Rattle.book.specs.declared.Answer.{Answer}
+use Rattle.book.specs.declared.Answer.the-variants.{Taken, Value, Refused}
+use Rattle.book.specs.declared.Reply.{Reply}
+use Rattle.book.specs.declared.Reply.the-variants.{Taken as Taken′, Value as Value′, Again, Refused as Refused′}
+
+-- 01's table
+abbrev pub numberOf : Refusal → ℕ
+numberOf Size = 1
+numberOf Length = 2
+numberOf Qubit = 3
+numberOf Same = 4
+numberOf Form = 5
+numberOf Number = 6
+numberOf Chance = 7
+numberOf Record = 8
+numberOf Session = 9
+numberOf Early = 10
+numberOf Full = 11
+numberOf Room = 12
+
+-- what a call says, with 01's numbers and values
+pub data Said : Type 0 where
+  taken : Said
+  value : ℕ → Said
+  again : Said
+  refused : ℕ → Said
+
+-- what each case of an answer says, and of a delivery's reply
+abbrev pub says : Answer → Said
+says Taken = taken
+says (Value v) = value v
+says (Refused r) = refused (numberOf r)
+
+abbrev pub replies : Reply → Said
+replies Taken′ = taken
+replies (Value′ v) = value v
+replies Again = again
+replies (Refused′ r) = refused (numberOf r)
+
+-- A test of the table: where it applies, the refusal has this number.
+pub record Test : Type 0 where
+  pub applies : Bool
+  pub no : ℕ
+
+abbrev pub _⇒_ : Bool → ℕ → Test
+b ⇒ k = record { applies = b; no = k }
+
+infix 68 _⇒_
+-- the first that applies in this order, and 0 for none
+abbrev pub first : List Test → ℕ
+first [] = 0
+first (t ∷ ts) = cond (t .applies) (t .no) (first ts)
+
+-- two lent buffers, real and imaginary
+pub record Buffers : Type 0 where
+  pub reals : List Float
+  pub imags : List Float
+
+abbrev pub buffers : List Float → List Float → Buffers
+buffers re im = record { reals = re; imags = im }
+
+-- what a call says, and what it leaves in the buffers
+pub record Outcome : Type 0 where
+  pub said : Said
+  pub left : Buffers
+
+abbrev pub outcome : Said → Buffers → Outcome
+outcome said b = record { said = said; left = b }
+
+-- A refusal returns its number, and the buffers keep what they held. With none the call does its work.
+abbrev pub unless : ℕ → Buffers → Outcome → Outcome
+unless zero before work = work
+unless (suc k) before work = outcome (refused (suc k)) before
+
+-- A call's whole contract: its answer and every place of its buffers are those of the outcome.
+pub record Does (o : Outcome) (answer : Answer) (after : Buffers) : Type 0 where
+  pub answers : says answer ≡ o .said
+  pub leaves : after ≡ o .left

@@ -1,0 +1,7 @@
+-- Document 01 as definitions, in its order.
+pub mod Answers
+pub mod State
+pub mod Gates
+pub mod Kernels
+pub mod Measuring
+pub mod Matrices

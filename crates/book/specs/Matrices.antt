@@ -1,0 +1,117 @@
+-- Dense matrices of side 2 ^ n, n from 1 to 6, real and imaginary parts in two buffers, row by row. Definitions only. Assumes nothing.
+use Prim.Native.Nat.{ℕ, zero, suc, _+_, _-_, _*_, _/_, _%_, _^_}
+use mathlib.Core.Bool.{Bool, not, cond, _||_}
+use mathlib.Core.List.{List, [], _∷_}
+use lib.Dec.{eqb, leb}
+use lib.Ieee.{Float}
+use Rattle.book.specs.Answers.{taken, Test, _⇒_, first, Buffers, Outcome, outcome, unless}
+use Rattle.book.specs.Gates.{_⊕_, _⊖_, _⊗_, −_, nought, entry}
+use Rattle.book.specs.Kernels.{badSize, badLength, allFinite}
+use Rattle.book.specs.State.{State, amplitude, at, held, bit}
+use Rattle.book.specs.declared.Amplitude.{Amplitude}
+use Rattle.book.specs.declared.Matrix.{Matrix}
+
+-- n for matrices
+abbrev pub mostMatrix : ℕ
+mostMatrix = 6
+
+-- how many entries a matrix has
+abbrev pub entries : ℕ → ℕ
+entries n = 2 ^ n * 2 ^ n
+
+-- a matrix: the entry at each row and column; the place k of a buffer is row k / side, column k % side
+abbrev pub Dense : Type 0
+Dense = ℕ → ℕ → Amplitude
+
+abbrev pub dense : ℕ → Buffers → Dense
+dense n b row column = at b (row * 2 ^ n + column)
+
+unfoldable pub heldDense : ℕ → Dense → Buffers
+unfolding held
+heldDense n m = held (entries n) (λ k. m (k / 2 ^ n) (k % 2 ^ n))
+
+-- ---- from four amplitudes and a target: those at the pairs' crossings, 0.0 elsewhere
+
+-- an index without its target bit: the two places of a pair share it
+abbrev pub pairOf : ℕ → ℕ → ℕ
+pairOf target i = i - bit target i * 2 ^ target
+
+abbrev pub crossing : Matrix → ℕ → Dense
+crossing m target row column =
+    cond (eqb (pairOf target row) (pairOf target column))
+    (entry m (2 * bit target row + bit target column))
+    (amplitude nought nought)
+
+abbrev pub numbersOf : List Amplitude → List Float
+numbersOf [] = []
+numbersOf (z ∷ zs) = z .re ∷ z .im ∷ numbersOf zs
+
+unfoldable pub gateMatrixRefusal : Matrix → ℕ → ℕ → Buffers → ℕ
+gateMatrixRefusal m n target out =
+    first
+    (badSize mostMatrix n ⇒ 1
+    ∷ badLength (entries n) out ⇒ 2
+    ∷ leb n target ⇒ 3
+    ∷ not (allFinite (numbersOf (m .entries))) ⇒ 6
+    ∷ [])
+
+abbrev pub gateMatrix : Matrix → ℕ → ℕ → Buffers → Outcome
+gateMatrix m n target out =
+    unless (gateMatrixRefusal m n target out) out
+    (outcome taken (heldDense n (crossing m target)))
+
+-- ---- conjugate transpose in place: every imaginary part negated, then transposed
+
+abbrev pub conjugate : Amplitude → Amplitude
+conjugate z = amplitude (z .re) (− z .im)
+
+unfoldable pub conjugateTransposeRefusal : ℕ → Buffers → ℕ
+conjugateTransposeRefusal n b =
+    first
+    (badSize mostMatrix n ⇒ 1
+    ∷ badLength (entries n) b ⇒ 2
+    ∷ [])
+
+abbrev pub conjugateTranspose : ℕ → Buffers → Outcome
+conjugateTranspose n b =
+    unless (conjugateTransposeRefusal n b) b
+    (outcome taken (heldDense n (λ row column. conjugate (dense n b column row))))
+
+-- ---- products: sums start at 0.0 and run by rising inner index
+
+-- adding ar·br-ai·bi and ar·bi+ai·br
+abbrev pub addProduct : Amplitude → Amplitude → Amplitude → Amplitude
+addProduct sum a b =
+    amplitude
+    (sum .re ⊕ (a .re ⊗ b .re ⊖ a .im ⊗ b .im))
+    (sum .im ⊕ (a .re ⊗ b .im ⊕ a .im ⊗ b .re))
+
+unfoldable pub dot : (ℕ → Amplitude) → (ℕ → Amplitude) → ℕ → Amplitude
+dot a b zero = amplitude nought nought
+dot a b (suc inner) = addProduct (dot a b inner) (a inner) (b inner)
+
+-- A·B, with A given first
+unfoldable pub productRefusal : ℕ → Buffers → Buffers → Buffers → ℕ
+productRefusal n a b out =
+    first
+    (badSize mostMatrix n ⇒ 1
+    ∷ (badLength (entries n) a || badLength (entries n) b || badLength (entries n) out) ⇒ 2
+    ∷ [])
+
+abbrev pub product : ℕ → Buffers → Buffers → Buffers → Outcome
+product n a b out =
+    unless (productRefusal n a b out) out
+    (outcome taken (heldDense n (λ row column. dot (dense n a row) (λ inner. dense n b inner column) (2 ^ n))))
+
+-- a matrix and a state
+unfoldable pub productStateRefusal : ℕ → Buffers → Buffers → Buffers → ℕ
+productStateRefusal n a state out =
+    first
+    (badSize mostMatrix n ⇒ 1
+    ∷ (badLength (entries n) a || badLength (2 ^ n) state || badLength (2 ^ n) out) ⇒ 2
+    ∷ [])
+
+abbrev pub productState : ℕ → Buffers → Buffers → Buffers → Outcome
+productState n a state out =
+    unless (productStateRefusal n a state out) out
+    (outcome taken (held (2 ^ n) (λ row. dot (dense n a row) (at state) (2 ^ n))))

@@ -1,0 +1,140 @@
+// The values that document 01 speaks of: amplitudes, gates, records, sessions, and the answers of the calls.
+// Types only: what they mean is in specs/, in 01's order.
+
+// An amplitude is a pair of f64, real and imaginary.
+pub struct Amplitude {
+    pub re: f64,
+    pub im: f64,
+}
+
+// The amplitudes at the two places of a pair.
+pub struct Pair {
+    pub s0: Amplitude,
+    pub s1: Amplitude,
+}
+
+// A two-by-two matrix: four amplitudes, row by row.
+pub struct Matrix {
+    pub entries: [Amplitude; 4],
+}
+
+// The controls of a gate: each qubit whose bit is set in ones has to be 1.
+pub struct Controls {
+    pub ones: u32,
+}
+
+// Cosine and sine of an angle, or of the half angle for RX, RY and RZ.
+pub struct Angle {
+    pub cosine: f64,
+    pub sine: f64,
+}
+
+// The eight numbers of U, in 01's order.
+pub struct Angles {
+    pub ct: f64,
+    pub st: f64,
+    pub cl: f64,
+    pub sl: f64,
+    pub cpl: f64,
+    pub spl: f64,
+    pub cp: f64,
+    pub sp: f64,
+}
+
+// A measurement's forced outcome, and whether the qubit is set back to 0 after it.
+pub struct Forced {
+    pub outcome: u8,
+    pub reset: u8,
+}
+
+// A bit flip's probability, and the draw supplied for it.
+pub struct Noise {
+    pub prob: f64,
+    pub draw: f64,
+}
+
+// One gate with its own numbers: the target first, then its controls or second qubit, then what it is fed.
+pub enum Gate {
+    H(u8, Controls),
+    X(u8, Controls),
+    Y(u8, Controls),
+    Z(u8, Controls),
+    P(u8, Controls, Angle),
+    Rx(u8, Controls, Angle),
+    Ry(u8, Controls, Angle),
+    Rz(u8, Controls, Angle),
+    U(u8, Controls, Angles),
+    Swap(u8, u8),
+    Measure(u8, Forced),
+    BitFlip(u8, Noise),
+}
+
+// A gate record.
+pub struct Record {
+    pub session: u32,
+    pub number: u16,
+    pub gate: Gate,
+}
+
+// A session: n qubits, its number, and the count of records taken.
+pub struct Session {
+    pub n: u32,
+    pub number: u32,
+    pub count: u16,
+}
+
+// The refusals, in the order of 01's table.
+pub enum Refusal {
+    Size,
+    Length,
+    Qubit,
+    Same,
+    Form,
+    Number,
+    Chance,
+    Record,
+    Session,
+    Early,
+    Full,
+    Room,
+}
+
+// What a kernel, a measurement or a matrix call answers.
+pub enum Answer {
+    Taken,
+    Value(u8),
+    Refused(Refusal),
+}
+
+// What a delivery says.
+pub enum Reply {
+    Taken,
+    Value(u8),
+    Again,
+    Refused(Refusal),
+}
+
+// A delivery hands back the next session, its reply, and the count after it.
+pub struct Delivered {
+    pub next: Session,
+    pub reply: Reply,
+    pub count: u16,
+}
+
+// Starting a session gives one, or refusal 1.
+pub enum Started {
+    Session(Session),
+    Refused(Refusal),
+}
+
+// Bytes are read as a record, or not.
+pub enum Read {
+    Record(Record),
+    Refused(Refusal),
+}
+
+// The writer answers how many bytes it wrote, or refusal 12.
+pub enum Written {
+    Bytes(usize),
+    Refused(Refusal),
+}

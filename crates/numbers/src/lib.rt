@@ -1,0 +1,1 @@
+// F and root: definitions only, in specs/.
