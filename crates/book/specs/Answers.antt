@@ -30,34 +30,37 @@ numberOf Room = 12
 pub data Said : Type 0 where
   taken : Said
   value : ℕ → Said
-  again : Said
   refused : ℕ → Said
 
--- what each case of an answer says, and of a delivery's reply
 abbrev pub says : Answer → Said
 says Taken = taken
 says (Value v) = value v
 says (Refused r) = refused (numberOf r)
 
-abbrev pub replies : Reply → Said
-replies Taken′ = taken
-replies (Value′ v) = value v
+-- what a delivery says: AGAIN, or what a call says
+pub data Replied : Type 0 where
+  again : Replied
+  said : Said → Replied
+
+abbrev pub replies : Reply → Replied
+replies Taken′ = said taken
+replies (Value′ v) = said (value v)
 replies Again = again
-replies (Refused′ r) = refused (numberOf r)
+replies (Refused′ r) = said (refused (numberOf r))
 
 -- A test of the table: where it applies, the refusal has this number.
 pub record Test : Type 0 where
   pub applies : Bool
-  pub no : ℕ
+  pub number : ℕ
 
 abbrev pub _⇒_ : Bool → ℕ → Test
-b ⇒ k = record { applies = b; no = k }
+b ⇒ k = record { applies = b; number = k }
 
 infix 68 _⇒_
 -- the first that applies in this order, and 0 for none
 abbrev pub first : List Test → ℕ
 first [] = 0
-first (t ∷ ts) = cond (t .applies) (t .no) (first ts)
+first (t ∷ ts) = cond (t .applies) (t .number) (first ts)
 
 -- two lent buffers, real and imaginary
 pub record Buffers : Type 0 where
@@ -69,11 +72,11 @@ buffers re im = record { reals = re; imags = im }
 
 -- what a call says, and what it leaves in the buffers
 pub record Outcome : Type 0 where
-  pub said : Said
+  pub says : Said
   pub left : Buffers
 
 abbrev pub outcome : Said → Buffers → Outcome
-outcome said b = record { said = said; left = b }
+outcome x b = record { says = x; left = b }
 
 -- A refusal returns its number, and the buffers keep what they held. With none the call does its work.
 abbrev pub unless : ℕ → Buffers → Outcome → Outcome
@@ -82,5 +85,5 @@ unless (suc k) before work = outcome (refused (suc k)) before
 
 -- A call's whole contract: its answer and every place of its buffers are those of the outcome.
 pub record Does (o : Outcome) (answer : Answer) (after : Buffers) : Type 0 where
-  pub answers : says answer ≡ o .said
+  pub answers : says answer ≡ o .says
   pub leaves : after ≡ o .left

@@ -13,6 +13,7 @@ use Rattle.book.specs.declared.Amplitude.{Amplitude}
 use Rattle.book.specs.declared.Angle.{Angle}
 use Rattle.book.specs.declared.Angles.{Angles}
 use Rattle.book.specs.declared.Matrix.{Matrix}
+use Rattle.book.specs.declared.Noise.{Noise}
 use Rattle.book.specs.declared.Pair.{Pair}
 
 -- ---- the operations of f64
@@ -158,8 +159,15 @@ any = 32
 abbrev pub pairGate : (Pair → Pair) → ℕ → List Float → PairGate
 pairGate rule most numbers = record { rule = rule; most = most; numbers = numbers }
 
+-- the numbers that a gate is fed, in 01's order
 abbrev pub angleOf : Angle → List Float
 angleOf angle = angle .cosine ∷ angle .sine ∷ []
+
+abbrev pub anglesOf : Angles → List Float
+anglesOf g = g .ct ∷ g .st ∷ g .cl ∷ g .sl ∷ g .cpl ∷ g .spl ∷ g .cp ∷ g .sp ∷ []
+
+abbrev pub noiseOf : Noise → List Float
+noiseOf noise = noise .prob ∷ noise .draw ∷ []
 
 abbrev pub xGate : PairGate
 xGate = pairGate xRule any []
@@ -186,4 +194,4 @@ abbrev pub rzGate : Angle → PairGate
 rzGate angle = pairGate (rzRule angle) 1 (angleOf angle)
 
 abbrev pub uGate : Angles → PairGate
-uGate g = pairGate (uRule (uMatrix g)) 1 (g .ct ∷ g .st ∷ g .cl ∷ g .sl ∷ g .cpl ∷ g .spl ∷ g .cp ∷ g .sp ∷ [])
+uGate g = pairGate (uRule (uMatrix g)) 1 (anglesOf g)

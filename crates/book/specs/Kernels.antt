@@ -9,7 +9,7 @@ use lib.Ieee.{Float}
 use lib.Ieee.Scale.{finite}
 use lib.ListN.{length}
 use Rattle.book.specs.Answers.{taken, value, Test, _⇒_, first, Buffers, Outcome, outcome, unless}
-use Rattle.book.specs.Gates.{PairGate, xRule}
+use Rattle.book.specs.Gates.{PairGate, xRule, noiseOf}
 use Rattle.book.specs.State.{State, at, held, bit, onPairs}
 use Rattle.book.specs.declared.Controls.{Controls}
 use Rattle.book.specs.declared.Noise.{Noise}
@@ -45,8 +45,8 @@ abbrev pub allFinite : List Float → Bool
 allFinite [] = true
 allFinite (x ∷ xs) = finite x && allFinite xs
 
-abbrev pub none : Controls
-none = record { ones = 0 }
+abbrev pub uncontrolled : Controls
+uncontrolled = record { ones = 0 }
 
 -- ---- a gate on pairs
 
@@ -96,11 +96,11 @@ bitFlipRefusal n target noise b =
     (badSize mostQubits n ⇒ 1
     ∷ badLength (2 ^ n) b ⇒ 2
     ∷ leb n target ⇒ 3
-    ∷ not (allFinite (noise .prob ∷ noise .draw ∷ [])) ⇒ 6
+    ∷ not (allFinite (noiseOf noise)) ⇒ 6
     ∷ [])
 
 -- X without controls if draw <= prob, else nothing; the answer is 1 if X ran, 0 if not
 abbrev pub bitFlip : ℕ → ℕ → Noise → Buffers → Outcome
 bitFlip n target noise b =
     unless (bitFlipRefusal n target noise b) b
-    (cond (Ieee.le (noise .draw) (noise .prob)) (outcome (value 1) (onPairs xRule n target none b)) (outcome (value 0) b))
+    (cond (Ieee.le (noise .draw) (noise .prob)) (outcome (value 1) (onPairs xRule n target uncontrolled b)) (outcome (value 0) b))

@@ -5,3 +5,5 @@ pub mod Gates
 pub mod Kernels
 pub mod Measuring
 pub mod Matrices
+pub mod Records
+pub mod Sessions

@@ -9,7 +9,7 @@ use lib.Ieee.Scale.{finite}
 use Rattle.numbers.specs.Fused as Fused
 use Rattle.book.specs.Answers.{value, Test, _⇒_, first, Buffers, Outcome, outcome, unless}
 use Rattle.book.specs.Gates.{_⊕_, _⊖_, _⊗_, nought, one, xRule}
-use Rattle.book.specs.Kernels.{badSize, mostQubits, badLength, none}
+use Rattle.book.specs.Kernels.{badSize, mostQubits, badLength, uncontrolled}
 use Rattle.book.specs.State.{State, amplitude, at, held, bit, onPairs}
 use Rattle.book.specs.declared.Amplitude.{Amplitude}
 use Rattle.book.specs.declared.Forced.{Forced}
@@ -66,4 +66,4 @@ measure n target forced b =
     let after = measured n target (forced .outcome) b in
     unless (measureRefusal n target forced b) b
     (outcome (value (forced .outcome))
-    (cond (eqb (forced .outcome) 1 && eqb (forced .reset) 1) (onPairs xRule n target none after) after))
+    (cond (eqb (forced .outcome) 1 && eqb (forced .reset) 1) (onPairs xRule n target uncontrolled after) after))
