@@ -7,3 +7,4 @@ pub mod Measuring
 pub mod Matrices
 pub mod Records
 pub mod Sessions
+pub mod Examples

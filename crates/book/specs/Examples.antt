@@ -1,0 +1,109 @@
+-- The twelve examples of 01, "Proved examples": one list, and one statement over it, worked out by antt from the definitions. Assumes nothing.
+-- An f64 is shown by its bits.
+use Prim.Native.Nat.{ℕ}
+use mathlib.Core.List.{List, [], _∷_, _++_, map}
+use mathlib.Core.Path.{_≡_, refl}
+use lib.Ieee.{Float, binary64, ofInt, ofBits, toBits, add, sub, mul, div, neg, le, lt, eq}
+use lib.Count.{ones}
+use lib.IntN.{pos}
+use lib.ListN.{take}
+use Rattle.numbers.specs.Fused.{fused, root}
+use Rattle.book.specs.Answers.{Buffers, buffers, Outcome}
+use Rattle.book.specs.Gates.{F, xGate, yGate, hGate}
+use Rattle.book.specs.Kernels.{kernel, kernelRefusal, swap, swapRefusal, swapped, uncontrolled}
+use Rattle.book.specs.Measuring.{measure, measured, measureRefusal, probability, summed}
+use Rattle.book.specs.Records.{writeRecord, listed}
+use Rattle.book.specs.Sessions.{session, act, deliver}
+use Rattle.book.specs.State.{tabulate, held, chosen, choice, placed, onPairs}
+use Rattle.book.specs.declared.Controls.{Controls}
+use Rattle.book.specs.declared.Gate.the-variants.{X}
+use Rattle.book.specs.declared.Record.{Record}
+use Rattle.book.specs.declared.Session.{Session}
+
+-- ---- how an example is written
+
+-- what the definitions give, and what 01 says
+pub record Example : Type 0 where
+  pub gives : List ℕ
+  pub paper : List ℕ
+
+abbrev pub _is_ : List ℕ → List ℕ → Example
+gives is paper = record { gives = gives; paper = paper }
+
+infix 68 _is_
+abbrev pub bits : List Float → List ℕ
+bits = map (toBits binary64)
+
+abbrev pub bitsOf : Float → List ℕ
+bitsOf x = bits (x ∷ [])
+
+-- a whole number, and a negative one, as an f64
+abbrev pub whole : ℕ → Float
+whole k = ofInt binary64 (pos k)
+
+abbrev pub minus : ℕ → Float
+minus k = neg (whole k)
+
+abbrev pub ofBits64 : ℕ → Float
+ofBits64 b = ofBits binary64 b
+
+-- a state with these reals, and no imaginary parts
+abbrev pub real : List ℕ → Buffers
+real ks = buffers (map whole ks) (map (λ k. whole 0) ks)
+
+abbrev pub reals : Outcome → List ℕ
+reals o = bits (o .left .reals)
+
+abbrev pub imags : Outcome → List ℕ
+imags o = bits (o .left .imags)
+
+abbrev pub controls : ℕ → Controls
+controls mask = record { ones = mask }
+
+-- X on qubit 0 of session 7, numbered k
+abbrev pub xNumbered : ℕ → Record
+xNumbered k = record { session = 7; number = k; gate = X 0 uncontrolled }
+
+-- the counts that the answers carry, one delivery after the other
+abbrev pub counts : Session → Buffers → List (List ℕ) → List ℕ
+counts s b [] = []
+counts s b (bytes ∷ more) =
+    let d = deliver s b bytes in
+    d .next .count ∷ counts (d .next) (d .left) more
+
+abbrev pub eightReals : Buffers
+eightReals = real (1 ∷ 2 ∷ 3 ∷ 4 ∷ 5 ∷ 6 ∷ 7 ∷ 8 ∷ [])
+
+abbrev pub hTwice : Outcome
+hTwice = kernel hGate 1 0 uncontrolled (kernel hGate 1 0 uncontrolled (real (1 ∷ 0 ∷ [])) .left)
+
+abbrev pub halves : Buffers
+halves = buffers (ofBits64 0x3FE0000000000000 ∷ ofBits64 0x3FE0000000000000 ∷ []) (whole 0 ∷ whole 0 ∷ [])
+
+abbrev pub yOnOne : Outcome
+yOnOne = kernel yGate 1 0 uncontrolled (buffers (whole 1 ∷ whole 3 ∷ []) (whole 2 ∷ whole 4 ∷ []))
+
+-- ---- the twelve
+
+unfoldable pub twelve : List Example
+unfolding ofInt ofBits toBits neg
+twelve =
+    bitsOf (F (ofBits64 0x3FF0000000000001) (ofBits64 0x3FEFFFFFFFFFFFFE) (minus 1)) is (0xB970000000000000 ∷ [])
+    ∷ bitsOf (F (ofBits64 1) (ofBits64 0x3FE0000000000000) (whole 0)) is (0 ∷ [])
+    ∷ bitsOf (F (ofBits64 1) (ofBits64 0x3FE8000000000000) (whole 0)) is (1 ∷ [])
+    ∷ bitsOf (root binary64 (whole 2)) is (0x3FF6A09E667F3BCD ∷ [])
+    ∷ reals (kernel xGate 2 0 (controls 2) (real (1 ∷ 2 ∷ 3 ∷ 4 ∷ []))) is bits (map whole (1 ∷ 2 ∷ 4 ∷ 3 ∷ []))
+    ∷ reals (kernel xGate 3 2 (controls 1) eightReals) is bits (map whole (1 ∷ 6 ∷ 3 ∷ 8 ∷ 5 ∷ 2 ∷ 7 ∷ 4 ∷ []))
+    ∷ (reals yOnOne ++ imags yOnOne) is bits (whole 4 ∷ minus 2 ∷ minus 3 ∷ whole 1 ∷ [])
+    ∷ take 1 (reals hTwice) is (0x3FF0000000000001 ∷ [])
+    ∷ reals (swap 3 0 2 eightReals) is bits (map whole (1 ∷ 5 ∷ 3 ∷ 7 ∷ 2 ∷ 6 ∷ 4 ∷ 8 ∷ []))
+    ∷ reals (measure 1 0 (record { outcome = 0; reset = 0 }) halves) is bits (map whole (1 ∷ 0 ∷ []))
+    ∷ writeRecord (record { session = 7; number = 0; gate = X 1 (controls 4) })
+    is (0x01 ∷ 0x00 ∷ 0x04 ∷ 0x00 ∷ 0x00 ∷ 0x00 ∷ 0x07 ∷ 0x02 ∷ 0x00 ∷ 0x02 ∷ 0x00 ∷ 0x00 ∷ 0x03 ∷ 0x00 ∷ 0x01 ∷ 0x02
+    ∷ 0x04 ∷ 0x00 ∷ 0x01 ∷ 0x01 ∷ 0x05 ∷ 0x00 ∷ 0x04 ∷ 0x00 ∷ 0x00 ∷ 0x00 ∷ 0x04 ∷ [])
+    ∷ counts (session 1 7 0) (real (1 ∷ 0 ∷ [])) (map (λ k. writeRecord (xNumbered k)) (0 ∷ 0 ∷ 2 ∷ 1 ∷ [])) is (1 ∷ 1 ∷ 1 ∷ 2 ∷ [])
+    ∷ []
+
+pub all-twelve : map (λ e. e .gives) twelve ≡ map (λ e. e .paper) twelve
+unfolding twelve fused root kernelRefusal swapRefusal swapped measured measureRefusal probability summed listed act deliver tabulate held chosen choice placed onPairs le lt eq div add sub mul ones
+all-twelve = refl
