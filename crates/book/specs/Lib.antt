@@ -8,3 +8,4 @@ pub mod Matrices
 pub mod Records
 pub mod Sessions
 pub mod Examples
+pub mod ExactlyOnce

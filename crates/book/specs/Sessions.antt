@@ -1,6 +1,6 @@
 -- Starting a session, a delivery, and a run of deliveries. Definitions only. Assumes nothing.
 use Prim.Native.Nat.{ℕ, _+_, _^_}
-use mathlib.Core.Bool.{Bool, cond, not}
+use mathlib.Core.Bool.{Bool, true, false, cond, not}
 use mathlib.Core.List.{List, [], _∷_}
 use mathlib.Core.Option.{Option, some, none}
 use mathlib.Core.Path.{_≡_}
@@ -56,11 +56,18 @@ kept s b x = record { next = s; says = x; left = b }
 abbrev pub refusing : Bool → ℕ → Session → Buffers → Delivery → Delivery
 refusing applies k s b follows = cond applies (kept s b (said (refused k))) follows
 
--- a gate that is taken raises the count
-abbrev pub counted : Session → Buffers → Said → Buffers → Delivery
-counted s b taken after = record { next = session (s .n) (s .number) (s .count + 1); says = said taken; left = after }
-counted s b (value v) after = record { next = session (s .n) (s .number) (s .count + 1); says = said (value v); left = after }
-counted s b (refused k) after = kept s b (said (refused k))
+-- whether a gate was taken
+abbrev pub accepts : Said → Bool
+accepts taken = true
+accepts (value v) = true
+accepts (refused k) = false
+
+-- a gate that was taken raises the count
+abbrev pub counted : Session → Buffers → Outcome → Delivery
+counted s b o =
+    cond (accepts (o .says))
+    (record { next = session (s .n) (s .number) (s .count + 1); says = said (o .says); left = o .left })
+    (kept s b (said (o .says)))
 
 -- 9, 11; then a number below the count answers AGAIN, one above it 10, and only an equal one goes on to the gate, 3 to 7
 abbrev pub takeRecord : Session → Buffers → Record → Delivery
@@ -69,7 +76,7 @@ takeRecord s b r =
     (refusing (eqb (r .number) 65535) 11 s b
     (cond (ltb (r .number) (s .count)) (kept s b again)
     (refusing (ltb (s .count) (r .number)) 10 s b
-    (counted s b (act (s .n) (r .gate) b .says) (act (s .n) (r .gate) b .left)))))
+    (counted s b (act (s .n) (r .gate) b)))))
 
 -- 8
 abbrev pub takeRead : Session → Buffers → Option Record → Delivery

@@ -1,0 +1,94 @@
+-- Demand 3: exactly once. What it speaks of, and the statement; proofs/ExactlyOnce.antt proves it. Definitions only. Assumes nothing.
+-- "Found in order" and "longest" speak of lists alone: the session's count has no part in them.
+use Prim.Native.Nat.{ℕ, _+_, _^_, _≤_}
+use mathlib.Core.Bool.{false, cond}
+use mathlib.Core.List.{List, [], _∷_, _++_}
+use mathlib.Core.Logic.{_⊎_}
+use mathlib.Core.Option.{Option, some, none}
+use mathlib.Core.Path.{_≡_}
+use lib.ListN.{length, take}
+use Rattle.book.specs.Answers.{Buffers, Outcome}
+use Rattle.book.specs.Kernels.{badLength}
+use Rattle.book.specs.Records.{readRecord}
+use Rattle.book.specs.Sessions.{session, start, act, accepts, Delivery, deliver, Bench, deliverAll}
+use Rattle.book.specs.declared.Record.{Record}
+use Rattle.book.specs.declared.Session.{Session}
+use Rattle.book.specs.declared.Started.the-variants.{Session as Fresh}
+
+-- ---- the longest start of a list found in order
+
+-- `xs` is found in order in `ys`: leaving some of `ys` out gives `xs`
+pub data FoundIn {A : Type 0} : List A → List A → Type 0 where
+  done : FoundIn [] []
+  skip : {y : A} {xs ys : List A} → FoundIn xs ys → FoundIn xs (y ∷ ys)
+  keep : {y : A} {xs ys : List A} → FoundIn xs ys → FoundIn (y ∷ xs) (y ∷ ys)
+
+-- k is the length of the longest start of `rs` found in order in `ys`
+pub record Longest {A : Type 0} (k : ℕ) (rs ys : List A) : Type 0 where
+  pub within : k ≤ length rs
+  pub found : FoundIn (take k rs) ys
+  pub most : (j : ℕ) → j ≤ length rs → FoundIn (take j rs) ys → j ≤ k
+
+-- ---- the records
+
+abbrev pub In : Record → List Record → Type 0
+In r [] = ⊥
+In r (x ∷ xs) = (r ≡ x) ⊎ In r xs
+
+-- made for the session, numbered from k
+abbrev pub Numbered : ℕ → ℕ → List Record → Type 0
+Numbered own k [] = Unit
+Numbered own k (r ∷ rs) = (r .session ≡ own) × (r .number ≡ k) × Numbered own (k + 1) rs
+
+-- what records give, applied once each in order: nothing where one is refused
+abbrev pub after : ℕ → Buffers → List Record → Option Buffers
+after n b [] = some b
+after n b (r ∷ rs) =
+    let o = act n (r .gate) b in
+    cond (accepts (o .says)) (after n (o .left) rs) none
+
+-- ---- the deliveries
+
+-- one of the records, or unreadable bytes
+abbrev pub OneOf : List Record → List ℕ → Type 0
+OneOf rs bytes = (readRecord bytes ≡ none) ⊎ ((r : Record) × In r rs × (readRecord bytes ≡ some r))
+
+abbrev pub AllOf : List Record → List (List ℕ) → Type 0
+AllOf rs [] = Unit
+AllOf rs (bytes ∷ more) = OneOf rs bytes × AllOf rs more
+
+-- the records among the deliveries
+abbrev pub cons : Option Record → List Record → List Record
+cons (some r) rs = r ∷ rs
+cons none rs = rs
+
+abbrev pub seen : List (List ℕ) → List Record
+seen [] = []
+seen (bytes ∷ more) = cons (readRecord bytes) (seen more)
+
+-- ---- the statement
+
+-- A fresh session, buffers of its length, and up to 65,535 records made for it, numbered from 0, which applied once each in order are all accepted.
+pub record Given (n own : ℕ) (b : Buffers) (rs : List Record) : Type 0 where
+  pub fresh : start n own ≡ Fresh (session n own 0)
+  pub fits : badLength (2 ^ n) b ≡ false
+  pub few : length rs ≤ 65535
+  pub made : Numbered own 0 rs
+  pub last : Buffers
+  pub accepted : after n b rs ≡ some last
+
+-- After a delivery: the buffers are what the first k records give, once each, and the answer's count is k,
+-- the length of the longest start of the list found in order among the records delivered so far.
+pub record Once (n own : ℕ) (b : Buffers) (rs so-far : List Record) (d : Delivery) : Type 0 where
+  pub k : ℕ
+  pub count : d .next ≡ session n own k
+  pub longest : Longest k rs so-far
+  pub state : after n b (take k rs) ≡ some (d .left)
+
+-- Whatever was delivered before, `ds`, and whatever comes now, `bytes`.
+abbrev pub ExactlyOnce : Type 0
+ExactlyOnce =
+    (n own : ℕ) (b : Buffers) (rs : List Record) → Given n own b rs
+    → (ds : List (List ℕ)) (bytes : List ℕ) → AllOf rs ds → OneOf rs bytes
+    → let bench = deliverAll (record { session = session n own 0; state = b }) ds in
+    Once n own b rs (seen (ds ++ (bytes ∷ []))) (deliver (bench .session) (bench .state) bytes)
