@@ -33,7 +33,7 @@ unfolding held
 held-fits n s =
     rw (eq-eqb (length (tabulate (λ i. s i .re) 0 (2 ^ n))) (2 ^ n) (tabulate-length (λ i. s i .re) 0 (2 ^ n)), eq-eqb (length (tabulate (λ i. s i .im) 0 (2 ^ n))) (2 ^ n) (tabulate-length (λ i. s i .im) 0 (2 ^ n)))
 
-pairs-fit : (rule : Pair → Pair) (n target : ℕ) (controls : Controls) (b : Buffers) → Fits n (onPairs rule n target controls b)
+pub pairs-fit : (rule : Pair → Pair) (n target : ℕ) (controls : Controls) (b : Buffers) → Fits n (onPairs rule n target controls b)
 unfolding onPairs
 pairs-fit rule n target controls b = held-fits n _
 

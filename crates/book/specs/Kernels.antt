@@ -50,16 +50,18 @@ uncontrolled = record { ones = 0 }
 
 -- ---- a gate on pairs
 
-unfoldable pub kernelRefusal : PairGate → ℕ → ℕ → Controls → Buffers → ℕ
-kernelRefusal g n target controls b =
-    first
-    (badSize mostQubits n ⇒ 1
+abbrev pub kernelTests : PairGate → ℕ → ℕ → Controls → Buffers → List Test
+kernelTests g n target controls b =
+    badSize mostQubits n ⇒ 1
     ∷ badLength (2 ^ n) b ⇒ 2
     ∷ (leb n target || outside n controls) ⇒ 3
     ∷ clash target controls ⇒ 4
     ∷ ltb (g .most) (count controls) ⇒ 5
     ∷ not (allFinite (g .numbers)) ⇒ 6
-    ∷ [])
+    ∷ []
+
+unfoldable pub kernelRefusal : PairGate → ℕ → ℕ → Controls → Buffers → ℕ
+kernelRefusal g n target controls b = first (kernelTests g n target controls b)
 
 abbrev pub kernel : PairGate → ℕ → ℕ → Controls → Buffers → Outcome
 kernel g n target controls b =
@@ -77,27 +79,31 @@ unfoldable pub swapped : ℕ → ℕ → ℕ → Buffers → Buffers
 unfolding held
 swapped n t0 t1 b = held (2 ^ n) (λ i. at b (exchanged t0 t1 i))
 
-unfoldable pub swapRefusal : ℕ → ℕ → ℕ → Buffers → ℕ
-swapRefusal n t0 t1 b =
-    first
-    (badSize mostQubits n ⇒ 1
+abbrev pub swapTests : ℕ → ℕ → ℕ → Buffers → List Test
+swapTests n t0 t1 b =
+    badSize mostQubits n ⇒ 1
     ∷ badLength (2 ^ n) b ⇒ 2
     ∷ (leb n t0 || leb n t1) ⇒ 3
-    ∷ [])
+    ∷ []
+
+unfoldable pub swapRefusal : ℕ → ℕ → ℕ → Buffers → ℕ
+swapRefusal n t0 t1 b = first (swapTests n t0 t1 b)
 
 abbrev pub swap : ℕ → ℕ → ℕ → Buffers → Outcome
 swap n t0 t1 b = unless (swapRefusal n t0 t1 b) b (outcome taken (swapped n t0 t1 b))
 
 -- ---- bit flip
 
-unfoldable pub bitFlipRefusal : ℕ → ℕ → Noise → Buffers → ℕ
-bitFlipRefusal n target noise b =
-    first
-    (badSize mostQubits n ⇒ 1
+abbrev pub bitFlipTests : ℕ → ℕ → Noise → Buffers → List Test
+bitFlipTests n target noise b =
+    badSize mostQubits n ⇒ 1
     ∷ badLength (2 ^ n) b ⇒ 2
     ∷ leb n target ⇒ 3
     ∷ not (allFinite (noiseOf noise)) ⇒ 6
-    ∷ [])
+    ∷ []
+
+unfoldable pub bitFlipRefusal : ℕ → ℕ → Noise → Buffers → ℕ
+bitFlipRefusal n target noise b = first (bitFlipTests n target noise b)
 
 -- X without controls if draw <= prob, else nothing; the answer is 1 if X ran, 0 if not
 abbrev pub bitFlip : ℕ → ℕ → Noise → Buffers → Outcome

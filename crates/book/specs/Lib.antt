@@ -9,3 +9,4 @@ pub mod Records
 pub mod Sessions
 pub mod Examples
 pub mod ExactlyOnce
+pub mod Twice

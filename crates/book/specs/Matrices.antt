@@ -46,14 +46,16 @@ abbrev pub numbersOf : List Amplitude → List Float
 numbersOf [] = []
 numbersOf (z ∷ zs) = z .re ∷ z .im ∷ numbersOf zs
 
-unfoldable pub gateMatrixRefusal : Matrix → ℕ → ℕ → Buffers → ℕ
-gateMatrixRefusal m n target out =
-    first
-    (badSize mostMatrix n ⇒ 1
+abbrev pub gateMatrixTests : Matrix → ℕ → ℕ → Buffers → List Test
+gateMatrixTests m n target out =
+    badSize mostMatrix n ⇒ 1
     ∷ badLength (entries n) out ⇒ 2
     ∷ leb n target ⇒ 3
     ∷ not (allFinite (numbersOf (m .entries))) ⇒ 6
-    ∷ [])
+    ∷ []
+
+unfoldable pub gateMatrixRefusal : Matrix → ℕ → ℕ → Buffers → ℕ
+gateMatrixRefusal m n target out = first (gateMatrixTests m n target out)
 
 abbrev pub gateMatrix : Matrix → ℕ → ℕ → Buffers → Outcome
 gateMatrix m n target out =
@@ -65,12 +67,14 @@ gateMatrix m n target out =
 abbrev pub conjugate : Amplitude → Amplitude
 conjugate z = amplitude (z .re) (− z .im)
 
-unfoldable pub conjugateTransposeRefusal : ℕ → Buffers → ℕ
-conjugateTransposeRefusal n b =
-    first
-    (badSize mostMatrix n ⇒ 1
+abbrev pub conjugateTransposeTests : ℕ → Buffers → List Test
+conjugateTransposeTests n b =
+    badSize mostMatrix n ⇒ 1
     ∷ badLength (entries n) b ⇒ 2
-    ∷ [])
+    ∷ []
+
+unfoldable pub conjugateTransposeRefusal : ℕ → Buffers → ℕ
+conjugateTransposeRefusal n b = first (conjugateTransposeTests n b)
 
 abbrev pub conjugateTranspose : ℕ → Buffers → Outcome
 conjugateTranspose n b =
@@ -91,12 +95,14 @@ dot a b zero = amplitude nought nought
 dot a b (suc inner) = addProduct (dot a b inner) (a inner) (b inner)
 
 -- A·B, with A given first
-unfoldable pub productRefusal : ℕ → Buffers → Buffers → Buffers → ℕ
-productRefusal n a b out =
-    first
-    (badSize mostMatrix n ⇒ 1
+abbrev pub productTests : ℕ → Buffers → Buffers → Buffers → List Test
+productTests n a b out =
+    badSize mostMatrix n ⇒ 1
     ∷ (badLength (entries n) a || badLength (entries n) b || badLength (entries n) out) ⇒ 2
-    ∷ [])
+    ∷ []
+
+unfoldable pub productRefusal : ℕ → Buffers → Buffers → Buffers → ℕ
+productRefusal n a b out = first (productTests n a b out)
 
 abbrev pub product : ℕ → Buffers → Buffers → Buffers → Outcome
 product n a b out =
@@ -104,12 +110,14 @@ product n a b out =
     (outcome taken (heldDense n (λ row column. dot (dense n a row) (λ inner. dense n b inner column) (2 ^ n))))
 
 -- a matrix and a state
-unfoldable pub productStateRefusal : ℕ → Buffers → Buffers → Buffers → ℕ
-productStateRefusal n a state out =
-    first
-    (badSize mostMatrix n ⇒ 1
+abbrev pub productStateTests : ℕ → Buffers → Buffers → Buffers → List Test
+productStateTests n a state out =
+    badSize mostMatrix n ⇒ 1
     ∷ (badLength (entries n) a || badLength (2 ^ n) state || badLength (2 ^ n) out) ⇒ 2
-    ∷ [])
+    ∷ []
+
+unfoldable pub productStateRefusal : ℕ → Buffers → Buffers → Buffers → ℕ
+productStateRefusal n a state out = first (productStateTests n a state out)
 
 abbrev pub productState : ℕ → Buffers → Buffers → Buffers → Outcome
 productState n a state out =

@@ -1,7 +1,7 @@
 -- Forced measurement: the probabilities, tests 1, 2, 3, 6 and 7, and what it leaves. Definitions only. Assumes nothing.
 use Prim.Native.Nat.{ℕ, zero, suc, _^_}
 use mathlib.Core.Bool.{Bool, not, cond, _&&_, _||_}
-use mathlib.Core.List.{[], _∷_}
+use mathlib.Core.List.{List, [], _∷_}
 use lib.Dec.{eqb, leb}
 use lib.Ieee as Ieee
 use lib.Ieee.{Float, binary64}
@@ -50,15 +50,17 @@ badForced forced = leb 2 (forced .outcome) || leb 2 (forced .reset)
 abbrev pub badChance : Float → Bool
 badChance p = not (finite p && Ieee.lt nought p)
 
-unfoldable pub measureRefusal : ℕ → ℕ → Forced → Buffers → ℕ
-measureRefusal n target forced b =
-    first
-    (badSize mostQubits n ⇒ 1
+abbrev pub measureTests : ℕ → ℕ → Forced → Buffers → List Test
+measureTests n target forced b =
+    badSize mostQubits n ⇒ 1
     ∷ badLength (2 ^ n) b ⇒ 2
     ∷ leb n target ⇒ 3
     ∷ badForced forced ⇒ 6
     ∷ badChance (probability n target (forced .outcome) (at b)) ⇒ 7
-    ∷ [])
+    ∷ []
+
+unfoldable pub measureRefusal : ℕ → ℕ → Forced → Buffers → ℕ
+measureRefusal n target forced b = first (measureTests n target forced b)
 
 -- If the outcome is 1 and reset is 1, X follows. The answer is the outcome.
 abbrev pub measure : ℕ → ℕ → Forced → Buffers → Outcome

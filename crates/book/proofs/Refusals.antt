@@ -1,0 +1,45 @@
+-- What it means that no test applied: each of them is false. By the list of the tests. Assumes nothing.
+use Prim.Native.Nat.{ℕ}
+use mathlib.Core.Bool.{Bool, true, false, cond, not, _&&_, _||_}
+use mathlib.Core.List.{List, [], _∷_}
+use mathlib.Core.Path.{_≡_, refl}
+use native.Mathlib.Omega.{arith}
+use borrow.Author.Tests.{eqb-true}
+use lib.Dec.{T, eqb, ltb, ltb→lt}
+use lib.Ieee.Fits.{and-l, and-r}
+use lib.ListN.{length}
+use Rattle.book.specs.Answers.{Test, first, Buffers}
+use Rattle.book.specs.Kernels.{badLength}
+
+-- no test applies
+abbrev pub Clear : List Test → Type 0
+Clear [] = Unit
+Clear (t ∷ ts) = (t .applies ≡ false) × Clear ts
+
+-- 0 is no refusal's number
+abbrev pub numbered : List Test → Bool
+numbered [] = true
+numbered (t ∷ ts) = ltb 0 (t .number) && numbered ts
+
+pub clear : (ts : List Test) → T (numbered ts) → first ts ≡ 0 → Clear ts
+clear [] w e = tt
+clear (t ∷ ts) w e = by (t .applies) refl e (clear ts (and-r (ltb 0 (t .number)) (numbered ts) w))
+  where
+    by : (x : Bool) → t .applies ≡ x → cond x (t .number) (first ts) ≡ 0 → (first ts ≡ 0 → Clear ts) → Clear (t ∷ ts)
+    by true f z rest = absurd (omega (arith, ltb→lt 0 (t .number) (and-l (ltb 0 (t .number)) (numbered ts) w)))
+    by false f z rest = (f, rest z)
+
+pub neither : (x y : Bool) → (x || y) ≡ false → (x ≡ false) × (y ≡ false)
+neither true true e = (e, e)
+neither true false e = let z : _≡_ {A = ℕ} 0 1 = cc e in absurd (omega arith)
+neither false y e = (refl, e)
+
+pub not-false : (x : Bool) → not x ≡ false → x ≡ true
+not-false true e = refl
+not-false false e = let z : _≡_ {A = ℕ} 0 1 = cc e in absurd (omega arith)
+
+-- both buffers have the length
+pub right-lengths : (size : ℕ) (b : Buffers) → badLength size b ≡ false → (length (b .reals) ≡ size) × (length (b .imags) ≡ size)
+right-lengths size b e =
+    let (x, y) = neither (not (eqb (length (b .reals)) size)) (not (eqb (length (b .imags)) size)) e in
+    (eqb-true _ _ (not-false _ x), eqb-true _ _ (not-false _ y))
