@@ -7,3 +7,5 @@ pub mod Bits
 pub mod Tables
 pub mod Refusals
 pub mod Twice
+pub mod Agree
+pub mod Instance
