@@ -83,9 +83,9 @@ and-add zero i m e =
     let o : (m + 1) % 2 ≡ 1 = omega arith in
     let x2 : i % 2 < 2 = mod-lt i (zero-lt-suc 1) in
     let s1 : bitAnd i (m + 1) ≡ bitAnd (i / 2) (m / 2) * 2 + min (i % 2) 1 =
-            and-step i (m + 1) ∙ ap₂ (λ (x y : ℕ). bitAnd (i / 2) x * 2 + min (i % 2) y) h o in
+    and-step i (m + 1) ∙ ap₂ (λ (x y : ℕ). bitAnd (i / 2) x * 2 + min (i % 2) y) h o in
     let s2 : bitAnd i m ≡ bitAnd (i / 2) (m / 2) * 2 + min (i % 2) 0 =
-            and-step i m ∙ ap (λ (y : ℕ). bitAnd (i / 2) (m / 2) * 2 + min (i % 2) y) e′ in
+    and-step i m ∙ ap (λ (y : ℕ). bitAnd (i / 2) (m / 2) * 2 + min (i % 2) y) e′ in
     let b : bit 0 i ≡ i % 2 = bit-zero i in
     rw b (omega arith)
 and-add (suc t) i m e =
@@ -94,7 +94,7 @@ and-add (suc t) i m e =
     let o : (m + 2 ^ suc t) % 2 ≡ m % 2 = omega arith in
     let ih : bitAnd (i / 2) (m / 2 + 2 ^ t) ≡ bitAnd (i / 2) (m / 2) + bit t (i / 2) * 2 ^ t = and-add t (i / 2) (m / 2) (sym (bit-suc t m) ∙ e) in
     let s1 : bitAnd i (m + 2 ^ suc t) ≡ bitAnd (i / 2) (m / 2 + 2 ^ t) * 2 + min (i % 2) (m % 2) =
-            and-step i (m + 2 ^ suc t) ∙ ap₂ (λ (x y : ℕ). bitAnd (i / 2) x * 2 + min (i % 2) y) h o in
+    and-step i (m + 2 ^ suc t) ∙ ap₂ (λ (x y : ℕ). bitAnd (i / 2) x * 2 + min (i % 2) y) h o in
     let s2 : bitAnd i m ≡ bitAnd (i / 2) (m / 2) * 2 + min (i % 2) (m % 2) = and-step i m in
     let b : bit (suc t) i ≡ bit t (i / 2) = bit-suc t i in
     let q : bit (suc t) i * 2 ^ suc t ≡ bit t (i / 2) * 2 ^ t * 2 = ap₂ (λ (x y : ℕ). x * y) b p ∙ sym (mul-assoc (bit t (i / 2)) (2 ^ t) 2) in

@@ -123,11 +123,12 @@ module _ (n own : ℕ) (b₀ : Buffers) (rs : List Record) (g : Given n own b₀
     stays ys d x e m = rw e (record { k = k; count = refl; longest = m; state = a; fits = h })
 
     module _ (r : Record) (p : Placed own 0 r rs) where
-      -- the tests that a record of the list passes
-      passes : takeRecord (session n own k) b r
-          ≡ cond (ltb (r .number) k) (kept (session n own k) b again)
-          (refusing (ltb k (r .number)) 10 (session n own k) b (counted (session n own k) b (act n (r .gate) b)))
-      passes = rw (eq-eqb (r .session) own (p .theirs), ne-eqb (r .number) 65535 (λ e. omega (arith, p .is, p .within, g .few)))
+      -- the tests 9 and 11, that a record of the list passes
+      theirs : eqb (r .session) own ≡ true
+      theirs = eq-eqb (r .session) own (p .theirs)
+
+      not-full : eqb (r .number) 65535 ≡ false
+      not-full = ne-eqb (r .number) 65535 (λ e. omega (arith, p .is, p .within, g .few))
 
       -- a record that is not the next: the longest start stays
       not-next : (r .number ≡ k → ⊥) → Longest k rs (xs ++ (r ∷ []))
@@ -136,12 +137,12 @@ module _ (n own : ℕ) (b₀ : Buffers) (rs : List Record) (g : Given n own b₀
 
       module _ (d : Delivery) (is : d ≡ takeRecord (session n own k) b r) where
         repeated : r .number < k → Holds (xs ++ (r ∷ [])) (d .next) (d .left)
-        repeated m = stays (xs ++ (r ∷ [])) d again (is ∙ passes ∙ (rw (lt-ltb (r .number) k m))) (not-next (λ e. omega arith))
+        repeated m = stays (xs ++ (r ∷ [])) d again (is ∙ (rw (theirs, not-full, lt-ltb (r .number) k m))) (not-next (λ e. omega arith))
 
         early : k < r .number → Holds (xs ++ (r ∷ [])) (d .next) (d .left)
         early m =
             stays (xs ++ (r ∷ [])) d (said (refused 10))
-            (is ∙ passes ∙ (rw (le-ltb (r .number) k (omega arith), lt-ltb k (r .number) m)))
+            (is ∙ (rw (theirs, not-full, le-ltb (r .number) k (omega arith), lt-ltb k (r .number) m)))
             (not-next (λ e. omega arith))
 
         next : r .number ≡ k → Holds (xs ++ (r ∷ [])) (d .next) (d .left)
@@ -150,7 +151,7 @@ module _ (n own : ℕ) (b₀ : Buffers) (rs : List Record) (g : Given n own b₀
             let start : take (suc k) rs ≡ take k rs ++ (r ∷ []) = subst (λ (j : ℕ). take (suc j) rs ≡ take j rs ++ (r ∷ [])) i-is (p .start) in
             let took : accepts (act n (r .gate) b .says) ≡ true = next-accepted n rs r k b₀ b (g .last) start (g .accepted) a in
             let made : d ≡ record { next = session n own (k + 1); says = said (act n (r .gate) b .says); left = act n (r .gate) b .left } =
-                    is ∙ passes ∙ (rw (le-ltb (r .number) k (omega arith), le-ltb k (r .number) (omega arith), took)) in
+            is ∙ (rw (theirs, not-full, le-ltb (r .number) k (omega arith), le-ltb k (r .number) (omega arith), took)) in
             rw made
             (record {
               k = k + 1;

@@ -1,20 +1,18 @@
--- The twelve examples of 01, "Proved examples": one list, and one statement over it, worked out by antt from the definitions. Assumes nothing.
+-- The twelve examples of 01, "Proved examples": one list, and one statement over it; proofs/Examples.antt proves it. Definitions only. Assumes nothing.
 -- An f64 is shown by its bits.
 use Prim.Native.Nat.{ℕ}
 use mathlib.Core.List.{List, [], _∷_, _++_, map}
-use mathlib.Core.Path.{_≡_, refl}
-use lib.Ieee.{Float, binary64, ofInt, ofBits, toBits, add, sub, mul, div, neg, le, lt, eq}
-use lib.Count.{ones}
+use mathlib.Core.Path.{_≡_}
+use lib.Ieee.{Float, binary64, ofInt, ofBits, toBits, neg}
 use lib.IntN.{pos}
 use lib.ListN.{take}
-use Rattle.numbers.specs.Fused.{fused, root}
+use Rattle.numbers.specs.Fused.{root}
 use Rattle.book.specs.Answers.{Buffers, buffers, Outcome}
 use Rattle.book.specs.Gates.{F, xGate, yGate, hGate}
-use Rattle.book.specs.Kernels.{kernel, kernelRefusal, swap, swapRefusal, swapped, uncontrolled}
-use Rattle.book.specs.Measuring.{measure, measured, measureRefusal, probability, summed}
-use Rattle.book.specs.Records.{writeRecord, listed}
-use Rattle.book.specs.Sessions.{session, act, deliver}
-use Rattle.book.specs.State.{tabulate, held, chosen, choice, placed, onPairs}
+use Rattle.book.specs.Kernels.{kernel, swap, uncontrolled}
+use Rattle.book.specs.Measuring.{measure}
+use Rattle.book.specs.Records.{writeRecord}
+use Rattle.book.specs.Sessions.{session, deliver}
 use Rattle.book.specs.declared.Controls.{Controls}
 use Rattle.book.specs.declared.Gate.the-variants.{X}
 use Rattle.book.specs.declared.Record.{Record}
@@ -104,6 +102,7 @@ twelve =
     ∷ counts (session 1 7 0) (real (1 ∷ 0 ∷ [])) (map (λ k. writeRecord (xNumbered k)) (0 ∷ 0 ∷ 2 ∷ 1 ∷ [])) is (1 ∷ 1 ∷ 1 ∷ 2 ∷ [])
     ∷ []
 
-pub all-twelve : map (λ e. e .gives) twelve ≡ map (λ e. e .paper) twelve
-unfolding twelve fused root kernelRefusal swapRefusal swapped measured measureRefusal probability summed listed act deliver tabulate held chosen choice placed onPairs le lt eq div add sub mul ones
-all-twelve = refl
+-- each example of a list holds
+abbrev pub Hold : List Example → Type 0
+Hold [] = Unit
+Hold (e ∷ es) = (e .gives ≡ e .paper) × Hold es
