@@ -1,15 +1,15 @@
--- What it means that no test applied: each of them is false. By the list of the tests. Assumes nothing.
-use Prim.Native.Nat.{ℕ}
+-- What it means that no test applied: each of them is false. By the list of the tests. And test 1 from n. Assumes nothing.
+use Prim.Native.Nat.{ℕ, _≤_, _<_}
 use mathlib.Core.Bool.{Bool, true, false, cond, not, _&&_, _||_}
 use mathlib.Core.List.{List, [], _∷_}
 use mathlib.Core.Path.{_≡_, refl}
 use native.Mathlib.Omega.{arith}
-use borrow.Author.Tests.{eqb-true}
+use borrow.Author.Tests.{eqb-true, lt-ltb, le-ltb}
 use lib.Dec.{T, eqb, ltb, ltb→lt}
 use lib.Ieee.Fits.{and-l, and-r}
 use lib.ListN.{length}
 use Rattle.book.specs.Answers.{Test, first, Buffers}
-use Rattle.book.specs.Kernels.{badLength}
+use Rattle.book.specs.Kernels.{badSize, badLength}
 
 -- no test applies
 abbrev pub Clear : List Test → Type 0
@@ -43,3 +43,14 @@ pub right-lengths : (size : ℕ) (b : Buffers) → badLength size b ≡ false �
 right-lengths size b e =
     let (x, y) = neither (not (eqb (length (b .reals)) size)) (not (eqb (length (b .imags)) size)) e in
     (eqb-true _ _ (not-false _ x), eqb-true _ _ (not-false _ y))
+
+-- ---- test 1 from n
+
+pub too-small : (most n : ℕ) → n < 1 → badSize most n ≡ true
+too-small most n l = rw (lt-ltb n 1 l)
+
+pub too-large : (most n : ℕ) → 1 ≤ n → most < n → badSize most n ≡ true
+too-large most n l m = rw (le-ltb n 1 l, lt-ltb most n m)
+
+pub right-size : (most n : ℕ) → 1 ≤ n → n ≤ most → badSize most n ≡ false
+right-size most n l m = rw (le-ltb n 1 l, le-ltb most n m)

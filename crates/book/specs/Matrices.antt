@@ -94,32 +94,24 @@ unfoldable pub dot : (ℕ → Amplitude) → (ℕ → Amplitude) → ℕ → Amp
 dot a b zero = amplitude nought nought
 dot a b (suc inner) = addProduct (dot a b inner) (a inner) (b inner)
 
--- A·B, with A given first
-abbrev pub productTests : ℕ → Buffers → Buffers → Buffers → List Test
-productTests n a b out =
+-- a matrix A, and a second factor and an output of one size
+abbrev pub productTests : ℕ → ℕ → Buffers → Buffers → Buffers → List Test
+productTests size n a b out =
     badSize mostMatrix n ⇒ 1
-    ∷ (badLength (entries n) a || badLength (entries n) b || badLength (entries n) out) ⇒ 2
+    ∷ (badLength (entries n) a || badLength size b || badLength size out) ⇒ 2
     ∷ []
 
-unfoldable pub productRefusal : ℕ → Buffers → Buffers → Buffers → ℕ
-productRefusal n a b out = first (productTests n a b out)
+unfoldable pub productRefusal : ℕ → ℕ → Buffers → Buffers → Buffers → ℕ
+productRefusal size n a b out = first (productTests size n a b out)
 
+-- A·B, with A given first
 abbrev pub product : ℕ → Buffers → Buffers → Buffers → Outcome
 product n a b out =
-    unless (productRefusal n a b out) out
+    unless (productRefusal (entries n) n a b out) out
     (outcome taken (heldDense n (λ row column. dot (dense n a row) (λ inner. dense n b inner column) (2 ^ n))))
 
--- a matrix and a state
-abbrev pub productStateTests : ℕ → Buffers → Buffers → Buffers → List Test
-productStateTests n a state out =
-    badSize mostMatrix n ⇒ 1
-    ∷ (badLength (entries n) a || badLength (2 ^ n) state || badLength (2 ^ n) out) ⇒ 2
-    ∷ []
-
-unfoldable pub productStateRefusal : ℕ → Buffers → Buffers → Buffers → ℕ
-productStateRefusal n a state out = first (productStateTests n a state out)
-
+-- A and a state
 abbrev pub productState : ℕ → Buffers → Buffers → Buffers → Outcome
 productState n a state out =
-    unless (productStateRefusal n a state out) out
+    unless (productRefusal (2 ^ n) n a state out) out
     (outcome taken (held (2 ^ n) (λ row. dot (dense n a row) (at state) (2 ^ n))))

@@ -1,0 +1,70 @@
+-- `unitaries::products::fill_state` meets its contract: one row more in each turn. Assumes nothing.
+use Prim.Native.Nat.{ℕ, _+_, _-_, _*_, _≤_}
+use mathlib.Core.Logic.{inr}
+use mathlib.Core.Path.{_≡_, refl, sym, ap, ap₂, _∙_}
+use native.Mathlib.Nat.{zero-mul}
+use borrow.Author.Needs.{needs}
+use native.Mathlib.Omega.{arith}
+use Rattle.book.specs.Answers.{buffers}
+use Rattle.book.specs.Gates.{nought}
+use Rattle.book.specs.Matrices.{addProduct}
+use Rattle.book.specs.State.{amplitude}
+use Rattle.book.specs.declared.Amplitude.{Amplitude}
+use Rattle.unitaries.specs.Filled.{Filled, Small, rowSum, rowDot, product, stateDot}
+use Rattle.unitaries.proofs.Dots.{zero-is, row-end, square-le, start-fits, sum-more, row-none, row-more, rows-more, state-none, state-more}
+use Rattle.unitaries.proofs.Fills.{nothing, one-more, fewer, again, done, holds}
+use Rattle.unitaries.proofs.products.fill_state.Statement.{statement}
+use Rattle.unitaries.proofs.products.fill_state.Tie as tie
+
+abbrev Inv-loop : tie.InvT-loop
+Inv-loop ar ai br bi reals₀ imags₀ side row₀ reals imags row = (row ≤ side) × Filled 0 row (λ r. stateDot (buffers ar ai) (r * side) (buffers br bi) side) (buffers reals₀ imags₀) (buffers reals imags)
+
+abbrev μ-loop : tie.MeasureT-loop
+μ-loop ar ai br bi reals₀ imags₀ side row₀ reals imags row = side - row
+
+loop-holds : tie.Need-loop-holds Inv-loop μ-loop
+loop-holds c = (omega arith, nothing _ _ _)
+
+mul-row-dot : tie.Need-mul-row-dot Inv-loop μ-loop
+mul-row-dot c = record { fits = start-fits _ _ (c .loop-test .taken) (c .before .before .before .before .before .before .before .before .pre .0) }
+
+row-dot-requires : tie.Need-row-dot-requires Inv-loop μ-loop
+row-dot-requires c κs = (fewer (row-end _ _ (c .loop-test .taken)) (c .before .before .before .before .before .before .before .before .pre .1), c .before .before .before .before .before .before .before .before .pre .2)
+
+write-at-requires : tie.Need-write-at-requires Inv-loop μ-loop
+write-at-requires c κs = search needs
+
+add-row : tie.Need-add-row Inv-loop μ-loop
+add-row c = search needs
+
+loop-less : tie.Need-loop-less Inv-loop μ-loop
+loop-less c = search needs
+
+loop-again : tie.Need-loop-again Inv-loop μ-loop
+loop-again c = (omega arith, one-more (omega arith) (c .before .before .before .before .before .before .before .before .before .loop .inv .1) (c .before .before .before .before .write-at .ensures) (c .before .before .before .before .before .before .before .row-dot .ensures))
+
+same-length : tie.Need-same-length Inv-loop μ-loop
+same-length c = search needs
+
+same-length-2 : tie.Need-same-length-2 Inv-loop μ-loop
+same-length-2 c = search needs
+
+returns : tie.Need-returns Inv-loop μ-loop
+returns c = done (c .before .loop .inv) (c .loop-test .left)
+
+pub fill-state-spec : {M : Type 1} → statement M
+fill-state-spec =
+    tie.close
+    (tie.spec
+    Inv-loop
+    μ-loop
+    loop-holds
+    mul-row-dot
+    row-dot-requires
+    write-at-requires
+    add-row
+    loop-less
+    loop-again
+    same-length
+    same-length-2
+    returns)

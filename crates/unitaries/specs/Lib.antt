@@ -1,0 +1,2 @@
+-- The words of the inner functions' contracts: what a call of a part of the work leaves.
+pub mod Filled
