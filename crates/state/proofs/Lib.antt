@@ -1,5 +1,10 @@
 -- The laws under the kernels, by subject.
 pub mod Shifts
+pub mod Bits
+pub mod Loop
+pub mod Keys
+pub mod Buffers
+pub mod Chosen
 pub mod Finite
 pub mod Refusals
 pub mod Answers

@@ -1,5 +1,4 @@
 -- Pairs of places found by keys, and what a rule put to each of them leaves. Definitions only. Assumes nothing.
--- A key is a number that has all bits of fixed; the pair of the key w has its places s0 and s1 at w - back0 and w - back1.
 use Prim.Native.Nat.{ℕ, _+_, _-_, _≤_, _<_, _^_}
 use mathlib.Core.List.{List}
 use mathlib.Core.Logic.{_⊎_}
@@ -11,33 +10,59 @@ use Rattle.book.specs.Answers.{Buffers, buffers}
 use Rattle.book.specs.State.{State, at, pair}
 use Rattle.book.specs.declared.Pair.{Pair}
 
-abbrev pub Key : ℕ → ℕ → Type 0
-Key fixed w = bitAnd w fixed ≡ fixed
+-- ---- one pair
 
--- i is a place of the pair of w
-abbrev pub PlaceOf : ℕ → ℕ → ℕ → ℕ → Type 0
-PlaceOf back0 back1 w i = (i + back0 ≡ w) ⊎ (i + back1 ≡ w)
+-- s0 and s1 are two places of both buffers
+pub record TwoPlaces (b : Buffers) (s0 s1 : ℕ) : Type 0 where
+  pub apart : s0 < s1
+  pub reals : s1 < length (b .reals)
+  pub imags : s1 < length (b .imags)
 
--- no place is in two pairs
-pub record Keyed (n fixed back0 back1 : ℕ) : Type 0 where
-  pub few : n ≤ 24
-  pub below : fixed < 2 ^ n
-  pub reach : back0 ≤ fixed
-  pub order : back1 < back0
-  pub apart : (i : ℕ) → Key fixed (i + back0) → Key fixed (i + back1) → ⊥
+abbrev pub pairAt : Buffers → ℕ → ℕ → Pair
+pairAt b s0 s1 = pair (at b s0) (at b s1)
 
--- the rule was put to the pair of each key, and no other place changed
-pub record Paired (rule : Pair → Pair) (n fixed back0 back1 : ℕ) (s s′ : State) : Type 0 where
-  pub lower : (w : ℕ) → Key fixed w → w < 2 ^ n → s′ (w - back0) ≡ rule (pair (s (w - back0)) (s (w - back1))) .s0
-  pub upper : (w : ℕ) → Key fixed w → w < 2 ^ n → s′ (w - back1) ≡ rule (pair (s (w - back0)) (s (w - back1))) .s1
-  pub others : (i : ℕ) → ((w : ℕ) → Key fixed w → w < 2 ^ n → PlaceOf back0 back1 w i → ⊥) → s′ i ≡ s i
+-- the rule was put to the pair at s0 and s1, and no other place changed
+pub record Stepped (rule : Pair → Pair) (s0 s1 : ℕ) (s s′ : State) : Type 0 where
+  pub lower : s′ s0 ≡ rule (pair (s s0) (s s1)) .s0
+  pub upper : s′ s1 ≡ rule (pair (s s0) (s s1)) .s1
+  pub others : (i : ℕ) → (i ≡ s0 → ⊥) → (i ≡ s1 → ⊥) → s′ i ≡ s i
 
 -- both buffers keep their lengths
 pub record SameSize (b b′ : Buffers) : Type 0 where
   pub reals : length (b′ .reals) ≡ length (b .reals)
   pub imags : length (b′ .imags) ≡ length (b .imags)
 
--- both buffers have n qubits' places
-pub record Sized (n : ℕ) (b : Buffers) : Type 0 where
+-- ---- many pairs: each key has one, at the places s0 and s1 of the key
+
+-- no place is in two pairs
+pub record Apart (Key : ℕ → Type 0) (s0 s1 : ℕ → ℕ) : Type 0 where
+  pub lower : (v w : ℕ) → Key v → Key w → s0 v ≡ s0 w → v ≡ w
+  pub upper : (v w : ℕ) → Key v → Key w → s1 v ≡ s1 w → v ≡ w
+  pub cross : (v w : ℕ) → Key v → Key w → s0 v ≡ s1 w → ⊥
+
+-- the rule was put to the pair of each key from a on and below b, and no other place changed
+pub record Paired (rule : Pair → Pair) (Key : ℕ → Type 0) (s0 s1 : ℕ → ℕ) (a b : ℕ) (s s′ : State) : Type 0 where
+  pub lower : (w : ℕ) → Key w → a ≤ w → w < b → s′ (s0 w) ≡ rule (pair (s (s0 w)) (s (s1 w))) .s0
+  pub upper : (w : ℕ) → Key w → a ≤ w → w < b → s′ (s1 w) ≡ rule (pair (s (s0 w)) (s (s1 w))) .s1
+  pub others : (i : ℕ) → ((w : ℕ) → Key w → a ≤ w → w < b → (i ≡ s0 w) ⊎ (i ≡ s1 w) → ⊥) → s′ i ≡ s i
+
+-- ---- keys by their bits: those that have all bits of fixed; the pair lies back0 and back1 below its key
+
+abbrev pub Has : ℕ → ℕ → Type 0
+Has fixed w = bitAnd w fixed ≡ fixed
+
+-- What a sweep over the keys of n qubits asks.
+pub record Keyed (n fixed back0 back1 : ℕ) (b : Buffers) : Type 0 where
+  pub some : 1 ≤ n
+  pub fits : n ≤ 24
   pub reals : length (b .reals) ≡ 2 ^ n
   pub imags : length (b .imags) ≡ 2 ^ n
+  pub below : fixed < 2 ^ n
+  pub reach : back0 ≤ fixed
+  pub order : back1 < back0
+  pub apart : (i : ℕ) → Has fixed (i + back0) → Has fixed (i + back1) → ⊥
+
+-- What it leaves: the rule was put to the pair of each key.
+pub record Swept (rule : Pair → Pair) (n fixed back0 back1 : ℕ) (b b′ : Buffers) : Type 0 where
+  pub same : SameSize b b′
+  pub pairs : Paired rule (Has fixed) (λ w. w - back0) (λ w. w - back1) 0 (2 ^ n) (at b) (at b′)
