@@ -8,3 +8,4 @@ pub mod Chosen
 pub mod Finite
 pub mod Refusals
 pub mod Answers
+pub mod Judged
