@@ -2,12 +2,13 @@
 use Prim.Native.Nat.{ℕ, zero, suc, _+_, _-_, _*_, _/_, _%_, _^_, _≤_, _<_, min, max}
 use mathlib.Core.Logic.{_⊎_, inl, inr, ⊎-elim}
 use mathlib.Core.Path.{_≡_, refl, sym, ap, ap₂, _∙_}
-use native.Mathlib.Nat.{pow-suc, mod-lt, div-one, div-div-eq-div-mul, mul-comm, mul-assoc, add-div-right, le-div-iff-mul-le, zero-lt-suc, div-lt-iff-lt-mul}
+use native.Mathlib.Nat.{pow-suc, mod-lt, div-one, div-div-eq-div-mul, mul-comm, mul-assoc, add-div-right, le-div-iff-mul-le, zero-lt-suc, div-lt-iff-lt-mul, mul-div-cancel, div-eq-of-lt, zero-div, zero-add}
+use native.Mathlib.Decide.{decLt}
 use native.Mathlib.Numerals.{add-one}
 use native.Mathlib.Omega.{arith}
 use lib.Arith.{bin-ind}
-use lib.Bits.{bitAnd, bitOr, and-self, and-step, or-step, and-comm, and-le-r, or-add-and}
-use lib.Pow.{pow-pos, pow-add}
+use lib.Bits.{bitAnd, bitOr, and-self, and-step, or-step, and-comm, and-le-r, and-zero-r, or-add-and}
+use lib.Pow.{pow-pos, pow-add, pow-lt}
 use Rattle.book.specs.State.{bit}
 
 pub bit-lt : (t i : ℕ) → bit t i < 2
@@ -143,3 +144,41 @@ module _ (t m : ℕ) (free : bit t m ≡ 0) where
       let a : bitAnd m (i + 2 ^ t) ≡ bitAnd m i + bit t m * 2 ^ t = and-add t m i e in
       let b : bitAnd m (i + 2 ^ t) ≡ bitAnd m i + 0 * 2 ^ t = rw free at a in
       omega (arith, and-comm (i + 2 ^ t) m, and-comm i m)
+
+-- ---- two bits
+
+pub bit-pow : (t u : ℕ) → (t ≡ u → ⊥) → bit t (2 ^ u) ≡ 0
+bit-pow t u ne =
+    elim (decLt t u) [
+      | yes l ↦
+        let k : ℕ = u - suc t in
+        let e : u ≡ k + 1 + t = omega arith in
+        let p : 2 ^ u ≡ 2 ^ (k + 1) * 2 ^ t = ap (λ (x : ℕ). 2 ^ x) e ∙ pow-add 2 (k + 1) t in
+        let q : 2 ^ (k + 1) ≡ 2 ^ k * 2 = rw add-one (pow-suc 2 k) in
+        let d : 2 ^ u / 2 ^ t ≡ 2 ^ k * 2 = ap (λ (x : ℕ). x / 2 ^ t) p ∙ mul-div-cancel (2 ^ (k + 1)) (pow-pos t) ∙ q in
+        omega arith
+      | no l ↦ let d : 2 ^ u / 2 ^ t ≡ 0 = div-eq-of-lt (pow-lt (let h : u < t = omega arith in h)) in omega arith
+    ]
+
+-- `and` with one bit
+single : (t i : ℕ) → bitAnd i (2 ^ t) ≡ bit t i * 2 ^ t
+single t i =
+    let a : bitAnd i (0 + 2 ^ t) ≡ bitAnd i 0 + bit t i * 2 ^ t = and-add t i 0 (ap (λ (x : ℕ). x % 2) (zero-div (2 ^ t))) in
+    omega (arith, ap (bitAnd i) (zero-add (2 ^ t)), and-zero-r i)
+
+pub bit-of-and : (t i : ℕ) → bitAnd i (2 ^ t) ≡ 2 ^ t → bit t i ≡ 1
+bit-of-and t i e =
+    ⊎-elim
+    (λ z. let s : bitAnd i (2 ^ t) ≡ 0 * 2 ^ t = rw z at (single t i) in absurd (omega (arith, pow-pos t)))
+    (λ o. o)
+    (halves t i)
+
+pub and-of-bit : (t i : ℕ) → bit t i ≡ 1 → bitAnd i (2 ^ t) ≡ 2 ^ t
+and-of-bit t i o = let s : bitAnd i (2 ^ t) ≡ 1 * 2 ^ t = rw o at (single t i) in omega arith
+
+-- a bit set changes no other
+pub bit-other : (t u i : ℕ) → (t ≡ u → ⊥) → bit t i ≡ 0 → bit u (i + 2 ^ t) ≡ bit u i
+bit-other t u i ne z =
+    let a : bitAnd (i + 2 ^ t) (2 ^ u) ≡ bitAnd i (2 ^ u) = and-up t (2 ^ u) (bit-pow t u ne) i z in
+    let b : bit u (i + 2 ^ t) * 2 ^ u ≡ bit u i * 2 ^ u = sym (single u (i + 2 ^ t)) ∙ a ∙ single u i in
+    sym (mul-div-cancel (bit u (i + 2 ^ t)) (pow-pos u)) ∙ ap (λ (x : ℕ). x / 2 ^ u) b ∙ mul-div-cancel (bit u i) (pow-pos u)

@@ -90,3 +90,6 @@ module _ (size : ℕ) (s : State) where
   pub imags-held : length (held size s .imags) ≡ size
   unfolding held
   imags-held = length-tabulate (λ i. s i .im) 0 size
+
+pub held-same : (size : ℕ) (s s′ : State) → ((i : ℕ) → i < size → s i ≡ s′ i) → held size s ≡ held size s′
+held-same size s s′ same = held-ext size s′ (held size s) (reals-held size s) (imags-held size s) (λ i l. at-held size s i l ∙ same i l)

@@ -5,6 +5,7 @@ pub mod Loop
 pub mod Keys
 pub mod Buffers
 pub mod Chosen
+pub mod Exchanged
 pub mod Finite
 pub mod Refusals
 pub mod Answers
