@@ -4,7 +4,6 @@ use book::Angle;
 use book::Matrix;
 use book::Pair;
 use rules::Rule;
-
 ghost use mathlib.Core.Path.{_≡_};
 ghost use Rattle.book.specs.Answers.{buffers};
 ghost use Rattle.book.specs.State.{at};

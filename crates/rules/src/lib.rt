@@ -3,7 +3,6 @@ use book::Amplitude;
 use book::Angle;
 use book::Matrix;
 use book::Pair;
-
 ghost use mathlib.Core.Path.{_≡_};
 ghost use Rattle.book.specs.Gates.{xRule, yRule, zRule, hRule, rxRule, ryRule};
 ghost use Rattle.rules.specs.Rules.{ruleOf};

@@ -151,12 +151,12 @@ pub bit-pow : (t u : ℕ) → (t ≡ u → ⊥) → bit t (2 ^ u) ≡ 0
 bit-pow t u ne =
     elim (decLt t u) [
       | yes l ↦
-        let k : ℕ = u - suc t in
-        let e : u ≡ k + 1 + t = omega arith in
-        let p : 2 ^ u ≡ 2 ^ (k + 1) * 2 ^ t = ap (λ (x : ℕ). 2 ^ x) e ∙ pow-add 2 (k + 1) t in
-        let q : 2 ^ (k + 1) ≡ 2 ^ k * 2 = rw add-one (pow-suc 2 k) in
-        let d : 2 ^ u / 2 ^ t ≡ 2 ^ k * 2 = ap (λ (x : ℕ). x / 2 ^ t) p ∙ mul-div-cancel (2 ^ (k + 1)) (pow-pos t) ∙ q in
-        omega arith
+          let k : ℕ = u - suc t in
+          let e : u ≡ k + 1 + t = omega arith in
+          let p : 2 ^ u ≡ 2 ^ (k + 1) * 2 ^ t = ap (λ (x : ℕ). 2 ^ x) e ∙ pow-add 2 (k + 1) t in
+          let q : 2 ^ (k + 1) ≡ 2 ^ k * 2 = rw add-one (pow-suc 2 k) in
+          let d : 2 ^ u / 2 ^ t ≡ 2 ^ k * 2 = ap (λ (x : ℕ). x / 2 ^ t) p ∙ mul-div-cancel (2 ^ (k + 1)) (pow-pos t) ∙ q in
+          omega arith
       | no l ↦ let d : 2 ^ u / 2 ^ t ≡ 0 = div-eq-of-lt (pow-lt (let h : u < t = omega arith in h)) in omega arith
     ]
 

@@ -182,9 +182,9 @@ module _ (n t u : ℕ) (b : Buffers) where
         elim (ℕ-discrete t u) [
           | yes e ↦ sym (swapped-itself e ∙ ap (swapped n t u) (swapped-itself e))
           | no d ↦ sym
-            (held-ext (2 ^ n) (λ i. at (swapped n t u b) (exchanged t u i)) b reals imags
-            (λ i l.
-            sym
-            (at-held (2 ^ n) (λ j. at b (exchanged t u j)) (exchanged t u i) (exchanged-lt t u d i n a c l)
-            ∙ ap (at b) (exchanged-twice t u d i))))
+              (held-ext (2 ^ n) (λ i. at (swapped n t u b) (exchanged t u i)) b reals imags
+              (λ i l.
+              sym
+              (at-held (2 ^ n) (λ j. at b (exchanged t u j)) (exchanged t u i) (exchanged-lt t u d i n a c l)
+              ∙ ap (at b) (exchanged-twice t u d i))))
         ]

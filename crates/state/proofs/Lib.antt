@@ -10,3 +10,6 @@ pub mod Finite
 pub mod Refusals
 pub mod Answers
 pub mod Judged
+pub mod Free
+pub mod Calls
+pub mod Twice
