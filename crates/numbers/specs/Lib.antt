@@ -1,0 +1,3 @@
+-- What F and the root are (`Fused`), and a few of their values worked out (`Examples`). Assumes nothing.
+pub mod Fused
+pub mod Examples
