@@ -1,0 +1,6 @@
+-- The laws behind F and the root. Assumes nothing.
+pub mod Orders
+pub mod Sizes
+pub mod Sums
+pub mod Values
+pub mod Roots
