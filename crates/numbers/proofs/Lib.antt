@@ -4,3 +4,4 @@ pub mod Sizes
 pub mod Sums
 pub mod Values
 pub mod Roots
+pub mod BitsOf

@@ -18,14 +18,23 @@ pub record IsRoot (n r : ℕ) : Type 0 where
   pub under : r * r ≤ n
   pub over : n < suc r * suc r
 
-square-mono : {a b : ℕ} → a ≤ b → a * a ≤ b * b
+pub square-mono : {a b : ℕ} → a ≤ b → a * a ≤ b * b
 square-mono h = mul-le-mul h h
 
 not-more : {n a b : ℕ} → IsRoot n a → IsRoot n b → a ≤ b
-not-more {n} {a} {b} x y = le-of-suc-le-suc (lt-of-not-le (λ (h : suc b ≤ a). not-le-of-lt (lt-of-le-of-lt (le-trans (square-mono h) (x .under)) (y .over)) (le-refl (suc b * suc b))))
+not-more {n} {a} {b} x y =
+    le-of-suc-le-suc (lt-of-not-le (λ (h : suc b ≤ a). not-le-of-lt (lt-of-le-of-lt (le-trans (square-mono h) (x .under)) (y .over)) (le-refl (suc b * suc b))))
 
 pub root-unique : {n a b : ℕ} → IsRoot n a → IsRoot n b → a ≡ b
 root-unique x y = le-antisymm (not-more x y) (not-more y x)
+
+-- a number whose square is at most n is at most the root, and one whose square is above n is above it
+pub root-least : (n r p : ℕ) → IsRoot n r → p * p ≤ n → p ≤ r
+root-least n r p x l =
+    le-of-suc-le-suc (lt-of-not-le (λ (g : suc r ≤ p). not-le-of-lt (lt-of-le-of-lt (le-trans (square-mono g) l) (x .over)) (le-refl (suc r * suc r))))
+
+pub root-most : (n r p : ℕ) → IsRoot n r → n < p * p → r < p
+root-most n r p x l = lt-of-not-le (λ (g : p ≤ r). not-le-of-lt l (le-trans (square-mono g) (x .under)))
 
 twice-square : (s : ℕ) → 2 * s * (2 * s) ≡ s * s * 4
 twice-square s = mul-mul-mul-comm 2 s 2 s ∙ mul-comm 4 (s * s)
