@@ -3,6 +3,7 @@ mod sweeps;
 
 use book::Amplitude;
 use book::Angle;
+use book::Angles;
 use book::Answer;
 use book::Controls;
 use book::Matrix;
@@ -11,7 +12,7 @@ use rules::Rule;
 use sweeps::sweep;
 ghost use Prim.Native.Nat.{_≤_};
 ghost use Rattle.book.specs.Answers.{buffers, Does};
-ghost use Rattle.book.specs.Gates.{any, pairGate, xGate, yGate, hGate, rxGate, ryGate};
+ghost use Rattle.book.specs.Gates.{any, pairGate, xGate, yGate, hGate, rxGate, ryGate, rzGate, uGate};
 ghost use Rattle.book.specs.Kernels.{kernel, swap, bitFlip};
 ghost use Rattle.rules.specs.Rules.{ruleOf};
 
@@ -175,6 +176,45 @@ pub fn ry_apply(
         angle,
         no_matrix(),
     )
+}
+
+// Up to one control.
+pub fn rz_apply(
+    reals: &mut [f64],
+    imags: &mut [f64],
+    n: u32,
+    target: u32,
+    controls: Controls,
+    angle: Angle,
+) -> Answer
+    ensures { λ r. ⌜ Does (kernel (rzGate angle) n target controls (buffers (now (reals .entry)) (now (imags .entry)))) r (buffers (now (reals .exit)) (now (imags .exit))) ⌝ }
+{
+    run(reals, imags, n, target, controls, 1, &[angle.cosine, angle.sine], Rule::Rz, angle, no_matrix())
+}
+
+// The eight numbers make the matrix once. Up to one control.
+pub fn u_apply(
+    reals: &mut [f64],
+    imags: &mut [f64],
+    n: u32,
+    target: u32,
+    controls: Controls,
+    angles: Angles,
+) -> Answer
+    ensures { λ r. ⌜ Does (kernel (uGate angles) n target controls (buffers (now (reals .entry)) (now (imags .entry)))) r (buffers (now (reals .exit)) (now (imags .exit))) ⌝ }
+{
+    let numbers = [
+        angles.ct,
+        angles.st,
+        angles.cl,
+        angles.sl,
+        angles.cpl,
+        angles.spl,
+        angles.cp,
+        angles.sp,
+    ];
+    let matrix = rules::u_matrix(angles);
+    run(reals, imags, n, target, controls, 1, &numbers, Rule::U, no_angle(), matrix)
 }
 
 // SWAP of two qubits of which the first is not the higher: the places that have both bits are the keys of the pairs to exchange.

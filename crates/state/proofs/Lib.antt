@@ -10,6 +10,8 @@ pub mod Finite
 pub mod Refusals
 pub mod Answers
 pub mod Judged
+pub mod Lending
+pub mod Halves
 pub mod Free
 pub mod Calls
 pub mod Twice

@@ -8,6 +8,7 @@ use lib.Ieee.{Float}
 use lib.ListN.{length}
 use Rattle.book.specs.Answers.{Buffers, buffers}
 use Rattle.book.specs.State.{State, at, pair}
+use Rattle.book.specs.declared.Amplitude.{Amplitude}
 use Rattle.book.specs.declared.Pair.{Pair}
 
 -- ---- one pair
@@ -66,3 +67,9 @@ pub record Keyed (n fixed back0 back1 : ℕ) (b : Buffers) : Type 0 where
 pub record Swept (rule : Pair → Pair) (n fixed back0 back1 : ℕ) (b b′ : Buffers) : Type 0 where
   pub same : SameSize b b′
   pub pairs : Paired rule (Has fixed) (λ w. w - back0) (λ w. w - back1) 0 (2 ^ n) (at b) (at b′)
+
+-- ---- places one by one: each place from a on and below b became what f makes of it, and no other changed
+pub record Turned (f : ℕ → Amplitude → Amplitude) (a b : ℕ) (s s′ : State) : Type 0 where
+  pub inside : (i : ℕ) → a ≤ i → i < b → s′ i ≡ f i (s i)
+  pub before : (i : ℕ) → i < a → s′ i ≡ s i
+  pub after : (i : ℕ) → b ≤ i → s′ i ≡ s i
