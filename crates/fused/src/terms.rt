@@ -1,0 +1,114 @@
+// x * y + z of ordinary numbers: the two terms brought to one unit and added or subtracted, exactly but for digits that rounding to odd may stand for.
+use crate::number::Number;
+use crate::odd::shift_to_odd;
+use crate::odd::to_odd;
+use crate::pack;
+use crate::wide;
+use crate::wide::Wide;
+ghost use mathlib.Core.Path.{_≡_};
+ghost use Prim.Native.Nat.{_+_, _*_, _^_, _<_};
+ghost use lib.Ieee.{binary64, low, size, round, sum, unlike};
+ghost use Rattle.fused.specs.Odd.{cutToOdd};
+ghost use Rattle.fused.specs.Steps.{limbs, scale, far, Fields, Terms};
+
+// s * 2^e.
+struct Scaled {
+    s: u64,
+    e: u64,
+}
+
+// w * 2^e in 64 bits: the lower digits are cut off, and it is rounded to odd.
+fn squeeze(w: Wide, e: u64) -> Scaled
+    requires { ⌜ (w .hi < 2 ^ 63) × (e < far binary64) ⌝ }
+    ensures { λ r. ⌜ (r .s ≡ cutToOdd (limbs (w .hi) (w .lo)) (size (w .hi))) × (r .e ≡ e + size (w .hi)) ⌝ }
+{
+    let hi = w.hi;
+    let lo = w.lo;
+    if hi == 0 {
+        Scaled { s: lo, e: e }
+    } else {
+        let n = pack::digits(hi);
+        let q = lo >> n;
+        Scaled {
+            s: to_odd((hi << (64 - n)) + q, lo - (q << n)),
+            e: e + n,
+        }
+    }
+}
+
+// w * 2^e working units, rounded once.
+fn pack_wide(neg: bool, w: Wide, e: u64) -> f64
+    requires { ⌜ (0 < limbs (w .hi) (w .lo)) × (w .hi < 2 ^ 63) × (e < far binary64) ⌝ }
+    ensures { λ r. ⌜ r ≡ round binary64 neg (limbs (w .hi) (w .lo) * 2 ^ e) (scale binary64) ⌝ }
+{
+    let c = squeeze(w, e);
+    pack::pack(neg, c.s, c.e)
+}
+
+// ±a ± b, each times 2^e working units, rounded once. What is exactly zero is +0: two terms of one sign are never that.
+fn pack_sum(p: bool, a: Wide, m: bool, b: Wide, e: u64) -> f64
+    requires { ⌜ (0 < limbs (a .hi) (a .lo)) × (a .hi + b .hi + 1 < 2 ^ 63) × (e < far binary64) ⌝ }
+    ensures { λ r. ⌜ r ≡ sum binary64 p (limbs (a .hi) (a .lo) * 2 ^ e) m (limbs (b .hi) (b .lo) * 2 ^ e) (scale binary64) ⌝ }
+{
+    if p == m {
+        pack_wide(p, wide::add(a, b), e)
+    } else if wide::less(a, b) {
+        pack_wide(m, wide::subtract(b, a), e)
+    } else if wide::less(b, a) {
+        pack_wide(p, wide::subtract(a, b), e)
+    } else {
+        0.0
+    }
+}
+
+// ±w * 2^a ± m * 2^b working units, rounded once. Where they are far apart the smaller one is cut, and rounded to odd.
+fn aligned(p: bool, w: Wide, a: u64, t: bool, m: u64, b: u64) -> f64
+    requires { ⌜ Terms binary64 (limbs (w .hi) (w .lo)) a m b ⌝ }
+    ensures { λ r. ⌜ r ≡ sum binary64 p (limbs (w .hi) (w .lo) * 2 ^ a) t (m * 2 ^ b) (scale binary64) ⌝ }
+{
+    if b < a {
+        return pack_sum(
+            p,
+            w,
+            t,
+            Wide {
+                hi: 0,
+                lo: shift_to_odd(m, a - b),
+            },
+            a,
+        );
+    }
+    let d = b - a;
+    if d < 64 {
+        pack_sum(p, w, t, wide::multiply(m, 1 << d), a)
+    } else {
+        let hi = w.hi;
+        let lo = w.lo;
+        pack_sum(
+            p,
+            Wide {
+                hi: 0,
+                lo: shift_to_odd(to_odd(hi, lo), d - 64),
+            },
+            t,
+            Wide { hi: 0, lo: m },
+            b,
+        )
+    }
+}
+
+// x * y + z, rounded once. The significands are moved up so that the lower limb of the product is full and no wide shift is needed.
+pub(crate) fn multiply_add(x: Number, y: Number, z: Number) -> f64
+    requires { ⌜ Fields binary64 (x .m) (x .e) × Fields binary64 (y .m) (y .e) × Fields binary64 (z .m) (z .e) ⌝ }
+    ensures { λ r. ⌜ r ≡ sum binary64 (unlike (x .neg) (y .neg)) (x .m * 2 ^ x .e * (y .m * 2 ^ y .e)) (z .neg) (z .m * 2 ^ z .e * 2 ^ low binary64) (2 ^ (low binary64 + low binary64)) ⌝ }
+{
+    let w = wide::multiply(x.m * 2048, y.m);
+    aligned(
+        x.neg != y.neg,
+        w,
+        x.e + y.e + 5,
+        z.neg,
+        z.m * 1024,
+        z.e + 1080,
+    )
+}

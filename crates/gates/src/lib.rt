@@ -1,0 +1,277 @@
+// The kernels of gates.rs over two lent buffers, with 01's refusals. Each call is judged first; then its gate's rule is put to each chosen pair.
+mod sweeps;
+
+use book::Amplitude;
+use book::Angle;
+use book::Angles;
+use book::Answer;
+use book::Controls;
+use book::Matrix;
+use book::Noise;
+use rules::Rule;
+use sweeps::sweep;
+ghost use Prim.Native.Nat.{_≤_};
+ghost use Rattle.book.specs.Answers.{buffers, Does};
+ghost use Rattle.book.specs.Gates.{any, pairGate, xGate, yGate, hGate, rxGate, ryGate, rzGate, uGate};
+ghost use Rattle.book.specs.Kernels.{kernel, swap, bitFlip};
+ghost use Rattle.rules.specs.Rules.{ruleOf};
+
+// A mask has 32 bits.
+const ANY: u32 = 32;
+
+// A gate on pairs, from its rule, the numbers that the rule is fed, how many controls it takes, and the numbers that test 6 judges.
+fn run(
+    reals: &mut [f64],
+    imags: &mut [f64],
+    n: u32,
+    target: u32,
+    controls: Controls,
+    most: u32,
+    numbers: &[f64],
+    rule: Rule,
+    angle: Angle,
+    matrix: Matrix,
+) -> Answer
+    ensures { λ r. ⌜ Does (kernel (pairGate (ruleOf rule angle matrix) most (now (numbers .entry))) n target controls (buffers (now (reals .entry)) (now (imags .entry)))) r (buffers (now (reals .exit)) (now (imags .exit))) ⌝ }
+{
+    let answer = state::judge(reals, imags, n, target, controls, most, numbers);
+    if let Answer::Taken = answer {
+        let bit: usize = 1 << target;
+        let fixed = controls.ones as usize + bit;
+        sweep(reals, imags, n, fixed, bit, 0, rule, angle, matrix);
+    }
+    answer
+}
+
+// What a rule is fed that takes no angle, or no matrix.
+fn no_angle() -> Angle {
+    Angle {
+        cosine: 1.0,
+        sine: 0.0,
+    }
+}
+
+fn no_matrix() -> Matrix {
+    let zero = Amplitude { re: 0.0, im: 0.0 };
+    Matrix { entries: [zero; 4] }
+}
+
+// s0 and s1 exchanged, with any number of controls.
+pub fn x_apply(
+    reals: &mut [f64],
+    imags: &mut [f64],
+    n: u32,
+    target: u32,
+    controls: Controls,
+) -> Answer
+    ensures { λ r. ⌜ Does (kernel xGate n target controls (buffers (now (reals .entry)) (now (imags .entry)))) r (buffers (now (reals .exit)) (now (imags .exit))) ⌝ }
+{
+    run(
+        reals,
+        imags,
+        n,
+        target,
+        controls,
+        ANY,
+        &[],
+        Rule::X,
+        no_angle(),
+        no_matrix(),
+    )
+}
+
+// Up to one control.
+pub fn y_apply(
+    reals: &mut [f64],
+    imags: &mut [f64],
+    n: u32,
+    target: u32,
+    controls: Controls,
+) -> Answer
+    ensures { λ r. ⌜ Does (kernel yGate n target controls (buffers (now (reals .entry)) (now (imags .entry)))) r (buffers (now (reals .exit)) (now (imags .exit))) ⌝ }
+{
+    run(
+        reals,
+        imags,
+        n,
+        target,
+        controls,
+        1,
+        &[],
+        Rule::Y,
+        no_angle(),
+        no_matrix(),
+    )
+}
+
+// Up to one control.
+pub fn h_apply(
+    reals: &mut [f64],
+    imags: &mut [f64],
+    n: u32,
+    target: u32,
+    controls: Controls,
+) -> Answer
+    ensures { λ r. ⌜ Does (kernel hGate n target controls (buffers (now (reals .entry)) (now (imags .entry)))) r (buffers (now (reals .exit)) (now (imags .exit))) ⌝ }
+{
+    run(
+        reals,
+        imags,
+        n,
+        target,
+        controls,
+        1,
+        &[],
+        Rule::H,
+        no_angle(),
+        no_matrix(),
+    )
+}
+
+// The angle is the half angle, here and below. Any number of controls.
+pub fn rx_apply(
+    reals: &mut [f64],
+    imags: &mut [f64],
+    n: u32,
+    target: u32,
+    controls: Controls,
+    angle: Angle,
+) -> Answer
+    ensures { λ r. ⌜ Does (kernel (rxGate angle) n target controls (buffers (now (reals .entry)) (now (imags .entry)))) r (buffers (now (reals .exit)) (now (imags .exit))) ⌝ }
+{
+    run(
+        reals,
+        imags,
+        n,
+        target,
+        controls,
+        ANY,
+        &[angle.cosine, angle.sine],
+        Rule::Rx,
+        angle,
+        no_matrix(),
+    )
+}
+
+// Any number of controls.
+pub fn ry_apply(
+    reals: &mut [f64],
+    imags: &mut [f64],
+    n: u32,
+    target: u32,
+    controls: Controls,
+    angle: Angle,
+) -> Answer
+    ensures { λ r. ⌜ Does (kernel (ryGate angle) n target controls (buffers (now (reals .entry)) (now (imags .entry)))) r (buffers (now (reals .exit)) (now (imags .exit))) ⌝ }
+{
+    run(
+        reals,
+        imags,
+        n,
+        target,
+        controls,
+        ANY,
+        &[angle.cosine, angle.sine],
+        Rule::Ry,
+        angle,
+        no_matrix(),
+    )
+}
+
+// Up to one control.
+pub fn rz_apply(
+    reals: &mut [f64],
+    imags: &mut [f64],
+    n: u32,
+    target: u32,
+    controls: Controls,
+    angle: Angle,
+) -> Answer
+    ensures { λ r. ⌜ Does (kernel (rzGate angle) n target controls (buffers (now (reals .entry)) (now (imags .entry)))) r (buffers (now (reals .exit)) (now (imags .exit))) ⌝ }
+{
+    run(reals, imags, n, target, controls, 1, &[angle.cosine, angle.sine], Rule::Rz, angle, no_matrix())
+}
+
+// The eight numbers make the matrix once. Up to one control.
+pub fn u_apply(
+    reals: &mut [f64],
+    imags: &mut [f64],
+    n: u32,
+    target: u32,
+    controls: Controls,
+    angles: Angles,
+) -> Answer
+    ensures { λ r. ⌜ Does (kernel (uGate angles) n target controls (buffers (now (reals .entry)) (now (imags .entry)))) r (buffers (now (reals .exit)) (now (imags .exit))) ⌝ }
+{
+    let numbers = [
+        angles.ct,
+        angles.st,
+        angles.cl,
+        angles.sl,
+        angles.cpl,
+        angles.spl,
+        angles.cp,
+        angles.sp,
+    ];
+    let matrix = rules::u_matrix(angles);
+    run(reals, imags, n, target, controls, 1, &numbers, Rule::U, no_angle(), matrix)
+}
+
+// SWAP of two qubits of which the first is not the higher: the places that have both bits are the keys of the pairs to exchange.
+fn exchange(reals: &mut [f64], imags: &mut [f64], n: u32, low: u32, high: u32) -> Answer
+    requires { ⌜ low ≤ high ⌝ }
+    ensures { λ r. ⌜ Does (swap n low high (buffers (now (reals .entry)) (now (imags .entry)))) r (buffers (now (reals .exit)) (now (imags .exit))) ⌝ }
+{
+    let answer = state::judge(reals, imags, n, high, Controls { ones: 0 }, ANY, &[]);
+    if let Answer::Taken = answer {
+        if low == high {
+            return answer;
+        }
+        let bit0: usize = 1 << low;
+        let bit1: usize = 1 << high;
+        sweep(
+            reals,
+            imags,
+            n,
+            bit0 + bit1,
+            bit1,
+            bit0,
+            Rule::X,
+            no_angle(),
+            no_matrix(),
+        );
+    }
+    answer
+}
+
+// Amplitudes exchanged whose indices differ by exchanging the bits t0 and t1; a qubit with itself changes nothing.
+pub fn swap_apply(reals: &mut [f64], imags: &mut [f64], n: u32, t0: u32, t1: u32) -> Answer
+    ensures { λ r. ⌜ Does (swap n t0 t1 (buffers (now (reals .entry)) (now (imags .entry)))) r (buffers (now (reals .exit)) (now (imags .exit))) ⌝ }
+{
+    if t1 < t0 {
+        return exchange(reals, imags, n, t1, t0);
+    }
+    exchange(reals, imags, n, t0, t1)
+}
+
+// X without controls if draw <= prob, else nothing; the answer is 1 if X ran, 0 if not.
+pub fn bit_flip_noise_apply(
+    reals: &mut [f64],
+    imags: &mut [f64],
+    n: u32,
+    target: u32,
+    noise: Noise,
+) -> Answer
+    ensures { λ r. ⌜ Does (bitFlip n target noise (buffers (now (reals .entry)) (now (imags .entry)))) r (buffers (now (reals .exit)) (now (imags .exit))) ⌝ }
+{
+    let numbers = [noise.prob, noise.draw];
+    let answer = state::judge(reals, imags, n, target, Controls { ones: 0 }, ANY, &numbers);
+    if let Answer::Taken = answer {
+        if noise.draw <= noise.prob {
+            x_apply(reals, imags, n, target, Controls { ones: 0 });
+            return Answer::Value(1);
+        }
+        return Answer::Value(0);
+    }
+    answer
+}

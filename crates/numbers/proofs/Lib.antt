@@ -1,0 +1,7 @@
+-- The laws behind F and the root. Assumes nothing.
+pub mod Orders
+pub mod Sizes
+pub mod Sums
+pub mod Values
+pub mod Roots
+pub mod BitsOf

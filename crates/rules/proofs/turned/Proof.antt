@@ -1,0 +1,7 @@
+-- `rules::turned` meets its contract. Assumes nothing.
+use borrow.Author.Needs.{needs}
+use Rattle.rules.proofs.turned.Statement.{statement}
+use Rattle.rules.proofs.turned.Tie as tie
+
+pub turned-spec : {M : Type 1} → statement M
+turned-spec = tie.close (tie.spec (λ c κs. search needs) (λ c κs. search needs) (λ c. cc))

@@ -1,0 +1,37 @@
+-- Which rule of 01 a value of Rule or of Upper names, with the numbers that it is fed. Definitions only. Assumes nothing.
+use Rattle.book.specs.Gates.{xRule, yRule, zRule, hRule, pRule, rxRule, ryRule, rzRule, uRule}
+use Rattle.book.specs.State.{pair}
+use Rattle.book.specs.declared.Amplitude.{Amplitude}
+use Rattle.book.specs.declared.Angle.{Angle}
+use Rattle.book.specs.declared.Matrix.{Matrix}
+use Rattle.book.specs.declared.Pair.{Pair}
+use Rattle.rules.specs.declared.Rule.{Rule}
+use Rattle.rules.specs.declared.Rule.the-variants.{X, Y, H, Rx, Ry, Rz, U}
+use Rattle.rules.specs.declared.Upper.{Upper}
+use Rattle.rules.specs.declared.Upper.the-variants.{Z, P}
+
+abbrev pub ruleOf : Rule → Angle → Matrix → Pair → Pair
+ruleOf X angle matrix = xRule
+ruleOf Y angle matrix = yRule
+ruleOf H angle matrix = hRule
+ruleOf Rx angle matrix = rxRule angle
+ruleOf Ry angle matrix = ryRule angle
+ruleOf Rz angle matrix = rzRule angle
+ruleOf U angle matrix = uRule matrix
+
+-- ---- the gates that leave s0 as it is
+
+abbrev pub upperRule : Upper → Angle → Pair → Pair
+upperRule Z angle = zRule
+upperRule P angle = pRule angle
+
+-- what they make of s1, whatever s0 is
+abbrev pub zUpper : Amplitude → Amplitude
+zUpper cd = zRule (pair cd cd) .s1
+
+abbrev pub pUpper : Angle → Amplitude → Amplitude
+pUpper angle cd = pRule angle (pair cd cd) .s1
+
+abbrev pub upperOf : Upper → Angle → Amplitude → Amplitude
+upperOf Z angle = zUpper
+upperOf P angle = pUpper angle
