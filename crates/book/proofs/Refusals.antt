@@ -4,7 +4,7 @@ use mathlib.Core.Bool.{Bool, true, false, cond, not, _&&_, _||_}
 use mathlib.Core.List.{List, [], _∷_}
 use mathlib.Core.Path.{_≡_, refl}
 use native.Mathlib.Omega.{arith}
-use borrow.Author.Tests.{eqb-true, lt-ltb, le-ltb}
+use borrow.Author.Tests.{eqb-true, lt-ltb, le-ltb, not-false}
 use lib.Dec.{T, eqb, ltb, ltb→lt}
 use lib.Ieee.Fits.{and-l, and-r}
 use lib.ListN.{length}
@@ -33,10 +33,6 @@ pub neither : (x y : Bool) → (x || y) ≡ false → (x ≡ false) × (y ≡ fa
 neither true true e = (e, e)
 neither true false e = let z : _≡_ {A = ℕ} 0 1 = cc e in absurd (omega arith)
 neither false y e = (refl, e)
-
-pub not-false : (x : Bool) → not x ≡ false → x ≡ true
-not-false true e = refl
-not-false false e = let z : _≡_ {A = ℕ} 0 1 = cc e in absurd (omega arith)
 
 -- both buffers have the length
 pub right-lengths : (size : ℕ) (b : Buffers) → badLength size b ≡ false → (length (b .reals) ≡ size) × (length (b .imags) ≡ size)

@@ -1,7 +1,7 @@
 -- Dense matrices of side 2 ^ n, n from 1 to 6, real and imaginary parts in two buffers, row by row. Definitions only. Assumes nothing.
 use Prim.Native.Nat.{ℕ, zero, suc, _+_, _-_, _*_, _/_, _%_, _^_}
 use mathlib.Core.Bool.{Bool, not, cond, _||_}
-use mathlib.Core.List.{List, [], _∷_}
+use mathlib.Core.List.{List, [], _∷_, _++_}
 use lib.Dec.{eqb, leb}
 use lib.Ieee.{Float}
 use Rattle.book.specs.Answers.{taken, Test, _⇒_, first, Buffers, Outcome, outcome, unless}
@@ -42,16 +42,19 @@ crossing m target row column =
     (entry m (2 * bit target row + bit target column))
     (amplitude nought nought)
 
-abbrev pub numbersOf : List Amplitude → List Float
-numbersOf [] = []
-numbersOf (z ∷ zs) = z .re ∷ z .im ∷ numbersOf zs
+-- the numbers of the four amplitudes
+abbrev pub parts : Amplitude → List Float
+parts z = z .re ∷ z .im ∷ []
+
+abbrev pub numbersOf : Matrix → List Float
+numbersOf m = parts (entry m 0) ++ parts (entry m 1) ++ parts (entry m 2) ++ parts (entry m 3)
 
 abbrev pub gateMatrixTests : Matrix → ℕ → ℕ → Buffers → List Test
 gateMatrixTests m n target out =
     badSize mostMatrix n ⇒ 1
     ∷ badLength (entries n) out ⇒ 2
     ∷ leb n target ⇒ 3
-    ∷ not (allFinite (numbersOf (m .entries))) ⇒ 6
+    ∷ not (allFinite (numbersOf m)) ⇒ 6
     ∷ []
 
 unfoldable pub gateMatrixRefusal : Matrix → ℕ → ℕ → Buffers → ℕ

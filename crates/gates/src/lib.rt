@@ -189,7 +189,18 @@ pub fn rz_apply(
 ) -> Answer
     ensures { λ r. ⌜ Does (kernel (rzGate angle) n target controls (buffers (now (reals .entry)) (now (imags .entry)))) r (buffers (now (reals .exit)) (now (imags .exit))) ⌝ }
 {
-    run(reals, imags, n, target, controls, 1, &[angle.cosine, angle.sine], Rule::Rz, angle, no_matrix())
+    run(
+        reals,
+        imags,
+        n,
+        target,
+        controls,
+        1,
+        &[angle.cosine, angle.sine],
+        Rule::Rz,
+        angle,
+        no_matrix(),
+    )
 }
 
 // The eight numbers make the matrix once. Up to one control.
@@ -214,7 +225,18 @@ pub fn u_apply(
         angles.sp,
     ];
     let matrix = rules::u_matrix(angles);
-    run(reals, imags, n, target, controls, 1, &numbers, Rule::U, no_angle(), matrix)
+    run(
+        reals,
+        imags,
+        n,
+        target,
+        controls,
+        1,
+        &numbers,
+        Rule::U,
+        no_angle(),
+        matrix,
+    )
 }
 
 // SWAP of two qubits of which the first is not the higher: the places that have both bits are the keys of the pairs to exchange.

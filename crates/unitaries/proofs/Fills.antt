@@ -36,13 +36,16 @@ empty f b e =
 pub nothing : (from : ℕ) (f : State) (b : Buffers) → Filled from 0 f b b
 nothing from f b = empty f b refl
 
+pub same-holds : {n : ℕ} {b b′ : Buffers} → SameSize b b′ → Holds n b → Holds n b′
+same-holds w h = record { reals = omega (arith, w .reals, h .reals); imags = omega (arith, w .imags, h .imags) }
+
 pub holds : {from count n : ℕ} {f : State} {b b′ : Buffers} → Filled from count f b b′ → Holds n b → Holds n b′
-holds w h = record { reals = omega (arith, w .size .reals, h .reals); imags = omega (arith, w .size .imags, h .imags) }
+holds w h = same-holds (w .size) h
 
 pub fewer : {n m : ℕ} {b : Buffers} → n ≤ m → Holds m b → Holds n b
 fewer l h = record { reals = omega (arith, h .reals); imags = omega (arith, h .imags) }
 
-same-size : {b b′ b″ : Buffers} → SameSize b b′ → SameSize b′ b″ → SameSize b b″
+pub same-size : {b b′ b″ : Buffers} → SameSize b b′ → SameSize b′ b″ → SameSize b b″
 same-size x y = record { reals = y .reals ∙ x .reals; imags = y .imags ∙ x .imags }
 
 -- THE LAW: a stretch, and then the one behind it, are one stretch

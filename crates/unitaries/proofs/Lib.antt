@@ -2,3 +2,5 @@
 pub mod Fills
 pub mod Dots
 pub mod Judged
+pub mod Mirrors
+pub mod Crossings

@@ -1,19 +1,18 @@
 -- `unitaries::apply_unitary` meets its contract: its two tests in order, and then the loops. Assumes nothing.
-use mathlib.Core.Path.{_≡_, refl, sym, _∙_}
-use native.Mathlib.Omega.{arith}
+use mathlib.Core.Path.{sym, _∙_}
 use borrow.Author.Needs.{needs}
 use Rattle.book.proofs.Refusals.{too-small, too-large}
 use Rattle.book.specs.Matrices.{mostMatrix}
 use Rattle.unitaries.proofs.Dots.{square-le}
-use Rattle.unitaries.proofs.Judged.{side-is, side-le, square-fits, ready, wrong-size, wrong-length, product-done, state-done}
+use Rattle.unitaries.proofs.Judged.{side-is, side-le, square-fits, ready, product-size, product-length, state-done}
 use Rattle.unitaries.proofs.apply_unitary.Statement.{statement}
 use Rattle.unitaries.proofs.apply_unitary.Tie as tie
 
 returns : tie.Need-returns
-returns c = wrong-size _ _ _ _ _ _ (too-small mostMatrix _ (c .if1 .taken))
+returns c = product-size _ _ _ _ _ _ (too-small mostMatrix _ (c .if1 .taken))
 
 returns-2 : tie.Need-returns-2
-returns-2 c = wrong-size _ _ _ _ _ _ (too-large mostMatrix _ (c .before .if1 .left) (c .if2 .taken))
+returns-2 c = product-size _ _ _ _ _ _ (too-large mostMatrix _ (c .before .if1 .left) (c .if2 .taken))
 
 shl-side : tie.Need-shl-side
 shl-side c = search needs
@@ -31,7 +30,7 @@ same-length-2 : tie.Need-same-length-2
 same-length-2 c = search needs
 
 returns-3 : tie.Need-returns-3
-returns-3 c = wrong-length _ _ _ _ _ _ (c .before .before .before .before .before .if1 .left) (c .before .before .before .before .if2 .left) (rw (side-is _ (c .before .before .before .before .if2 .left)) at (sym (c .before .bad-lengths .ensures) ∙ c .if3 .taken))
+returns-3 c = product-length _ _ _ _ _ _ (c .before .before .before .before .before .if1 .left) (c .before .before .before .before .if2 .left) (rw (side-is _ (c .before .before .before .before .if2 .left)) at (sym (c .before .bad-lengths .ensures) ∙ c .if3 .taken))
 
 fill-state-requires : tie.Need-fill-state-requires
 fill-state-requires c κs = ready _ _ _ _ _ _ _ (side-le _ (c .before .before .before .before .before .before .if2 .left)) (sym (c .before .before .before .bad-lengths .ensures) ∙ c .before .before .if3 .left)

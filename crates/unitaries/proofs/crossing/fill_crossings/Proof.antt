@@ -1,0 +1,73 @@
+-- `unitaries::crossing::fill_crossings` meets its contract: one place more in each turn. Assumes nothing.
+use Prim.Native.Nat.{_-_, _*_, _/_, _%_, _≤_}
+use native.Mathlib.Omega.{arith}
+use borrow.Author.Needs.{needs}
+use Rattle.book.specs.Answers.{buffers}
+use Rattle.book.specs.Matrices.{crossing}
+use Rattle.unitaries.specs.Filled.{Filled}
+use Rattle.unitaries.proofs.Dots.{square-le}
+use Rattle.unitaries.proofs.Fills.{nothing, one-more, done, fewer, holds}
+use Rattle.unitaries.proofs.Judged.{square-fits}
+use Rattle.unitaries.proofs.crossing.fill_crossings.Statement.{statement}
+use Rattle.unitaries.proofs.crossing.fill_crossings.Tie as tie
+
+abbrev Inv-loop : tie.InvT-loop
+Inv-loop reals₀ imags₀ target side entries size place₀ reals imags place = (place ≤ size) × Filled 0 place (λ k. crossing (record { entries = entries }) target (k / side) (k % side)) (buffers reals₀ imags₀) (buffers reals imags)
+
+abbrev μ-loop : tie.MeasureT-loop
+μ-loop reals₀ imags₀ target side entries size place₀ reals imags place = size - place
+
+mul-size : tie.Need-mul-size Inv-loop μ-loop
+mul-size c = record { fits = square-fits _ (c .before .before .before .pre .2) (square-le _ (c .before .before .before .pre .2)) }
+
+loop-holds : tie.Need-loop-holds Inv-loop μ-loop
+loop-holds c = (omega arith, nothing _ _ _)
+
+div-crossing-at : tie.Need-div-crossing-at Inv-loop μ-loop
+div-crossing-at c = search needs
+
+rem-crossing-at : tie.Need-rem-crossing-at Inv-loop μ-loop
+rem-crossing-at c = search needs
+
+crossing-at-requires : tie.Need-crossing-at-requires Inv-loop μ-loop
+crossing-at-requires c κs = search needs
+
+write-at-requires : tie.Need-write-at-requires Inv-loop μ-loop
+write-at-requires c κs = holds (c .before .before .before .before .loop .inv .1) (fewer (omega (arith, c .before .before .before .loop-test .taken)) (c .before .before .before .before .before .before .before .before .pre .3))
+
+add-place : tie.Need-add-place Inv-loop μ-loop
+add-place c = search needs
+
+loop-less : tie.Need-loop-less Inv-loop μ-loop
+loop-less c = search needs
+
+loop-again : tie.Need-loop-again Inv-loop μ-loop
+loop-again c = (omega (arith, c .before .before .before .before .before .before .before .before .loop-test .taken), one-more (omega arith) (c .before .before .before .before .before .before .before .before .before .loop .inv .1) (c .before .before .before .before .write-at .ensures) (c .before .before .before .before .before .before .before .crossing-at .ensures))
+
+same-length : tie.Need-same-length Inv-loop μ-loop
+same-length c = search needs
+
+same-length-2 : tie.Need-same-length-2 Inv-loop μ-loop
+same-length-2 c = search needs
+
+returns : tie.Need-returns Inv-loop μ-loop
+returns c = done (c .before .loop .inv) (c .loop-test .left)
+
+pub fill-crossings-spec : {M : Type 1} → statement M
+fill-crossings-spec =
+    tie.close
+    (tie.spec
+    Inv-loop
+    μ-loop
+    mul-size
+    loop-holds
+    div-crossing-at
+    rem-crossing-at
+    crossing-at-requires
+    write-at-requires
+    add-place
+    loop-less
+    loop-again
+    same-length
+    same-length-2
+    returns)

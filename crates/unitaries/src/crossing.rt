@@ -1,0 +1,50 @@
+// A matrix from four amplitudes and a target: those at the pairs' crossings, 0.0 elsewhere.
+use crate::places::write_at;
+use book::Amplitude;
+use book::Matrix;
+ghost use mathlib.Core.Path.{_≡_};
+ghost use Prim.Native.Nat.{ℕ, _+_, _*_, _/_, _%_, _^_, _≤_, _<_};
+ghost use Rattle.book.specs.Answers.{buffers};
+ghost use Rattle.book.specs.Matrices.{crossing, pairOf};
+ghost use Rattle.unitaries.specs.Filled.{Holds, Filled};
+
+// An index without its target bit: the two places of a pair share it.
+fn pair_of(target: u32, i: usize) -> usize
+    requires { ⌜ target < 6 ⌝ }
+    ensures { λ r. ⌜ r ≡ pairOf target i ⌝ }
+{
+    let bit: usize = 1 << target;
+    i - (i >> target) % 2 * bit
+}
+
+// The entry at a row and a column.
+fn crossing_at(matrix: Matrix, target: u32, row: usize, column: usize) -> Amplitude
+    requires { ⌜ target < 6 ⌝ }
+    ensures { λ r. ⌜ r ≡ crossing matrix target row column ⌝ }
+{
+    let entries = matrix.entries;
+    if pair_of(target, row) != pair_of(target, column) {
+        return Amplitude { re: 0.0, im: 0.0 };
+    }
+    entries[2 * ((row >> target) % 2) + (column >> target) % 2]
+}
+
+pub(crate) fn fill_crossings(
+    reals: &mut [f64],
+    imags: &mut [f64],
+    matrix: Matrix,
+    target: u32,
+    side: usize,
+)
+    requires { ⌜ (target < 6) × (1 ≤ side) × (side ≤ 64) × Holds (side * side) (buffers (now reals) (now imags)) ⌝ }
+    ensures { λ _. ⌜ Filled 0 (side * side) (λ k. crossing matrix target (k / side) (k % side)) (buffers (now (reals .entry)) (now (imags .entry))) (buffers (now (reals .exit)) (now (imags .exit))) ⌝ }
+{
+    let entries = matrix.entries;
+    let size = side * side;
+    let mut place = 0;
+    while place < size {
+        let z = crossing_at(Matrix { entries }, target, place / side, place % side);
+        write_at(reals, imags, place, z);
+        place += 1;
+    }
+}
