@@ -1,5 +1,6 @@
 // The kernels of gates.rs over two lent buffers, with 01's refusals. Each call is judged first; then its gate's rule is put to each chosen pair.
 mod sweeps;
+mod uppers;
 
 use book::Amplitude;
 use book::Angle;
@@ -9,12 +10,14 @@ use book::Controls;
 use book::Matrix;
 use book::Noise;
 use rules::Rule;
+use rules::Upper;
 use sweeps::sweep;
+use uppers::turn_blocks;
 ghost use Prim.Native.Nat.{_≤_};
 ghost use Rattle.book.specs.Answers.{buffers, Does};
-ghost use Rattle.book.specs.Gates.{any, pairGate, xGate, yGate, hGate, rxGate, ryGate, rzGate, uGate};
+ghost use Rattle.book.specs.Gates.{any, pairGate, xGate, yGate, zGate, hGate, pGate, rxGate, ryGate, rzGate, uGate};
 ghost use Rattle.book.specs.Kernels.{kernel, swap, bitFlip};
-ghost use Rattle.rules.specs.Rules.{ruleOf};
+ghost use Rattle.rules.specs.Rules.{ruleOf, upperRule};
 
 // A mask has 32 bits.
 const ANY: u32 = 32;
@@ -39,6 +42,27 @@ fn run(
         let bit: usize = 1 << target;
         let fixed = controls.ones as usize + bit;
         sweep(reals, imags, n, fixed, bit, 0, rule, angle, matrix);
+    }
+    answer
+}
+
+// The same for a gate that leaves s0 as it is.
+fn run_upper(
+    reals: &mut [f64],
+    imags: &mut [f64],
+    n: u32,
+    target: u32,
+    controls: Controls,
+    most: u32,
+    numbers: &[f64],
+    upper: Upper,
+    angle: Angle,
+) -> Answer
+    ensures { λ r. ⌜ Does (kernel (pairGate (upperRule upper angle) most (now (numbers .entry))) n target controls (buffers (now (reals .entry)) (now (imags .entry)))) r (buffers (now (reals .exit)) (now (imags .exit))) ⌝ }
+{
+    let answer = state::judge(reals, imags, n, target, controls, most, numbers);
+    if let Answer::Taken = answer {
+        turn_blocks(reals, imags, n, target, controls, upper, angle);
     }
     answer
 }
@@ -104,6 +128,29 @@ pub fn y_apply(
     )
 }
 
+// No controls.
+pub fn z_apply(
+    reals: &mut [f64],
+    imags: &mut [f64],
+    n: u32,
+    target: u32,
+    controls: Controls,
+) -> Answer
+    ensures { λ r. ⌜ Does (kernel zGate n target controls (buffers (now (reals .entry)) (now (imags .entry)))) r (buffers (now (reals .exit)) (now (imags .exit))) ⌝ }
+{
+    run_upper(
+        reals,
+        imags,
+        n,
+        target,
+        controls,
+        0,
+        &[],
+        Upper::Z,
+        no_angle(),
+    )
+}
+
 // Up to one control.
 pub fn h_apply(
     reals: &mut [f64],
@@ -125,6 +172,30 @@ pub fn h_apply(
         Rule::H,
         no_angle(),
         no_matrix(),
+    )
+}
+
+// Any number of controls.
+pub fn p_apply(
+    reals: &mut [f64],
+    imags: &mut [f64],
+    n: u32,
+    target: u32,
+    controls: Controls,
+    angle: Angle,
+) -> Answer
+    ensures { λ r. ⌜ Does (kernel (pGate angle) n target controls (buffers (now (reals .entry)) (now (imags .entry)))) r (buffers (now (reals .exit)) (now (imags .exit))) ⌝ }
+{
+    run_upper(
+        reals,
+        imags,
+        n,
+        target,
+        controls,
+        ANY,
+        &[angle.cosine, angle.sine],
+        Upper::P,
+        angle,
     )
 }
 

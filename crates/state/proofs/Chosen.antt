@@ -9,11 +9,10 @@ use borrow.Author.Tests.{eq-eqb, eqb-true}
 use lib.Bits.{bitAnd}
 use lib.Pow.{pow-pos}
 use Rattle.book.specs.Answers.{Buffers}
-use Rattle.book.specs.Gates.{PairGate}
 use Rattle.book.specs.State.{State, at, held, bit, chosen, choice, pair, placed, onPairs}
 use Rattle.book.specs.declared.Controls.{Controls}
 use Rattle.book.specs.declared.Pair.{Pair}
-use Rattle.state.specs.Judging.{Accepted}
+use Rattle.state.specs.Judging.{Seated}
 use Rattle.state.specs.Pairs.{Has, Paired, Keyed, Swept}
 use Rattle.state.proofs.Bits.{halves, bit-up, bit-le, bit-before, bit-down, up-lt, has-set, set-has, and-up}
 use Rattle.state.proofs.Buffers.{held-ext}
@@ -97,8 +96,8 @@ module _ (t : ℕ) (c : Controls) (free : bit t (c .ones) ≡ 0) where
             let q′ : s′ i ≡ rule (pair (s (i - 2 ^ t)) (s i)) .s1 = subst (λ (j : ℕ). s′ j ≡ rule (pair (s (i - 2 ^ t)) (s j)) .s1) (sub-zero i) q in
             q′ ∙ sym (placed-upper rule t c s i h o)
 
--- ---- an accepted call
-module _ {g : PairGate} {n t : ℕ} {c : Controls} {b : Buffers} (ok : Accepted g n t c b) where
+-- ---- a call that tests 1 to 4 let pass
+module _ {n t : ℕ} {c : Controls} {b : Buffers} (ok : Seated n t c b) where
   -- meets what a sweep asks
   pub keyed : Keyed n (c .ones + 2 ^ t) (2 ^ t) 0 b
   keyed =

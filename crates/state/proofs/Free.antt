@@ -18,7 +18,7 @@ use Rattle.book.specs.Kernels.{kernelRefusal, swapRefusal, bitFlipRefusal, badS
 use Rattle.book.specs.State.{bit}
 use Rattle.book.specs.declared.Controls.{Controls}
 use Rattle.book.specs.declared.Noise.{Noise}
-use Rattle.state.specs.Judging.{verdict, Accepted}
+use Rattle.state.specs.Judging.{verdict, Seated, Accepted}
 use Rattle.state.proofs.Refusals as R
 
 -- without controls tests 3, 4 and 5 look at the target alone
@@ -72,8 +72,8 @@ swap-refusal-sym n t u b = rw (or-swap (leb n t) (leb n u))
 pub accepted-too : (g g′ : PairGate) (n t : ℕ) (c : Controls) (b : Buffers) → Accepted g n t c b → g .most ≤ g′ .most → allFinite (g′ .numbers) ≡ true
     → taken ≡ verdict (kernelRefusal g′ n t c b)
 accepted-too g g′ n t c b ok more finite =
-    R.is-none g′ n t c b (R.size-good n (ok .some) (ok .fits)) (R.length-good (2 ^ n) b (ok .reals) (ok .imags))
-    (R.qubits-good n t c (ok .qubit) (ok .inside)) (ne-eqb (bit t (c .ones)) 1 (λ e. omega (arith, ok .free)))
+    R.is-none g′ n t c b (R.size-good n (ok .seated .some) (ok .seated .fits)) (R.length-good (2 ^ n) b (ok .seated .reals) (ok .seated .imags))
+    (R.qubits-good n t c (ok .seated .qubit) (ok .seated .inside)) (ne-eqb (bit t (c .ones)) 1 (λ e. omega (arith, ok .seated .free)))
     (le-ltb (g′ .most) (count c) (omega (arith, ok .within))) finite
 
 -- ---- SWAP accepted, in either order of its qubits
@@ -89,10 +89,10 @@ pub swap-accepted : (n t u : ℕ) (b : Buffers) → taken ≡ verdict (swapRefus
 swap-accepted n t u b e =
     elim (decLt t u) [
       | yes l ↦
-          let ok = R.accepted (pairGate (λ p. p) 32 []) n u uncontrolled b (e ∙ ap verdict (swap-refusal 32 n t u b (let h : t ≤ u = omega arith in h))) in
+          let ok = R.accepted (pairGate (λ p. p) 32 []) n u uncontrolled b (e ∙ ap verdict (swap-refusal 32 n t u b (let h : t ≤ u = omega arith in h))) .seated in
           record { some = ok .some; fits = ok .fits; reals = ok .reals; imags = ok .imags; lower = omega (arith, ok .qubit); upper = ok .qubit }
       | no l ↦
           let ok = R.accepted (pairGate (λ p. p) 32 []) n t uncontrolled b
-          (e ∙ ap verdict (swap-refusal-sym n t u b ∙ swap-refusal 32 n u t b (let h : u ≤ t = omega arith in h))) in
+          (e ∙ ap verdict (swap-refusal-sym n t u b ∙ swap-refusal 32 n u t b (let h : u ≤ t = omega arith in h))) .seated in
           record { some = ok .some; fits = ok .fits; reals = ok .reals; imags = ok .imags; lower = ok .qubit; upper = omega (arith, ok .qubit) }
     ]

@@ -12,12 +12,11 @@ use lib.ListN.{length, getD, set, length-set}
 use lib.Pow.{pow-pos, pow-add, high}
 use lib.Seq.{getD-set-same, getD-set-other}
 use Rattle.book.specs.Answers.{Buffers, buffers}
-use Rattle.book.specs.Gates.{PairGate}
 use Rattle.book.specs.State.{State, amplitude, at, held, bit, chosen, half, choice, pair, placeBy, placed, onPairs}
 use Rattle.book.specs.declared.Amplitude.{Amplitude}
 use Rattle.book.specs.declared.Controls.{Controls}
 use Rattle.book.specs.declared.Pair.{Pair}
-use Rattle.state.specs.Judging.{Accepted}
+use Rattle.state.specs.Judging.{Seated}
 use Rattle.state.specs.Pairs.{SameSize, Turned}
 use Rattle.state.proofs.Buffers.{held-ext}
 use Rattle.state.proofs.Lending.{lent, returned, lent-reals, lent-place, back-same, back-inside, back-before, back-after}
@@ -168,6 +167,17 @@ module _ (g : ℕ → Amplitude → Amplitude) (n t : ℕ) (qubit : t < n) (b₀
           turned = turn-join (onUpper g t) (omega arith) (omega arith) (u .turned) (turn-join (onUpper g t) (omega arith) (omega arith) lower upper);
         }
 
+    -- the same in the code's terms: bit is the value of `1 << target`
+    abbrev Step : ℕ → ℕ → Buffers → Type 0
+    Step x k p =
+        Turned (λ j. g (base + x + j)) 0 (length (lent (base + x) k b .reals)) (at (lent (base + x) k b)) (at p) × SameSize (lent (base + x) k b) p
+        → Blocks g n t b₀ (base + x + x) (returned (base + x) k b p)
+
+    pub blocks-steps : (bit : ℕ) → bit ≡ 2 ^ t → length (b .reals) ≡ 2 ^ n → length (b .imags) ≡ 2 ^ n → (p : Buffers) → Step bit (base + bit + bit - (base + bit)) p
+    blocks-steps bit e reals imags p =
+        let k : base + bit + bit - (base + bit) ≡ 2 ^ t = omega arith in
+        subst (λ (x : ℕ). Step x (base + bit + bit - (base + bit)) p) (sym e) (subst (λ (x : ℕ). Step (2 ^ t) x p) (sym k) (blocks-step reals imags p))
+
 -- ---- a gate that leaves s0 is its s1 on the upper halves, where the controls choose
 module _ (rule : Pair → Pair) (up : Amplitude → Amplitude) (keeps : (p : Pair) → rule p ≡ pair (p .s0) (up (p .s1))) (t : ℕ) (c : Controls) (s : State) where
   upper-placed : (i : ℕ) → placed rule t c s i ≡ onUpper (λ j x. cond (chosen c j) (up x) x) t i (s i)
@@ -180,7 +190,7 @@ module _ (rule : Pair → Pair) (up : Amplitude → Amplitude) (keeps : (p : Pai
       go true zero = ap (λ (p : Pair). p .s0) (keeps (pair (s i) (s (i + 2 ^ t))))
       go true (suc k) = ap (λ (p : Pair). p .s1) (keeps (pair (s (i - 2 ^ t)) (s i)))
 
-module _ {g : PairGate} {n t : ℕ} {c : Controls} {b : Buffers} (ok : Accepted g n t c b) where
+module _ {n t : ℕ} {c : Controls} {b : Buffers} (ok : Seated n t c b) where
   pub blocks-gate : (rule : Pair → Pair) (up : Amplitude → Amplitude) → ((p : Pair) → rule p ≡ pair (p .s0) (up (p .s1)))
       → (base : ℕ) (b′ : Buffers) → Blocks (λ i x. cond (chosen c i) (up x) x) n t b base b′ → 2 ^ n ≤ base → b′ ≡ onPairs rule n t c b
   unfolding onPairs

@@ -15,7 +15,7 @@ use Rattle.book.specs.declared.Answer.{Answer}
 use Rattle.book.specs.declared.Answer.the-variants.{Taken}
 use Rattle.book.specs.declared.Controls.{Controls}
 use Rattle.book.specs.declared.Pair.{Pair}
-use Rattle.state.specs.Judging.{verdict, Judged, Accepted}
+use Rattle.state.specs.Judging.{verdict, Judged, Seated}
 use Rattle.state.specs.Pairs.{Keyed, Swept}
 use Rattle.state.proofs.Answers.{passed, works, keeps}
 use Rattle.state.proofs.Chosen.{keyed, swept-gate}
@@ -36,8 +36,8 @@ module _ (rule : Pair → Pair) (most : ℕ) (numbers : List Float) (n t : ℕ) 
     kept h = keeps (kernelRefusal (pairGate rule most numbers) n t c b) said b (outcome taken (onPairs rule n t c b)) h
 
     module _ (e : r ≡ Taken) where
-      pub allowed : Accepted (pairGate rule most numbers) n t c b
-      allowed = accepted (pairGate rule most numbers) n t c b (passed (kernelRefusal (pairGate rule most numbers) n t c b) said e)
+      pub allowed : Seated n t c b
+      allowed = accepted (pairGate rule most numbers) n t c b (passed (kernelRefusal (pairGate rule most numbers) n t c b) said e) .seated
 
       pub done : {b′ : Buffers} → b′ ≡ onPairs rule n t c b → Does (kernel (pairGate rule most numbers) n t c b) r b′
       done h =

@@ -12,7 +12,7 @@ use Rattle.book.specs.Gates.{PairGate}
 use Rattle.book.specs.Kernels.{kernelRefusal, badSize, mostQubits, badLength, outside, clash, count, allFinite}
 use Rattle.book.specs.State.{bit}
 use Rattle.book.specs.declared.Controls.{Controls}
-use Rattle.state.specs.Judging.{verdict, Accepted}
+use Rattle.state.specs.Judging.{verdict, Seated, Accepted}
 
 -- ---- the refusal from its tests
 module _ (g : PairGate) (n t : ℕ) (c : Controls) (b : Buffers) where
@@ -130,13 +130,15 @@ accepted g n t c b e =
     let lengths = or-false (not (eqb (length (b .reals)) (2 ^ n))) (not (eqb (length (b .imags)) (2 ^ n))) (t2 .0) in
     let qubits = or-false (leb n t) (outside n c) (t3 .0) in
     record {
-      some = ltb-false n 1 (size .0);
-      fits = ltb-false 24 n (size .1);
-      reals = eqb-true (length (b .reals)) (2 ^ n) (not-false (eqb (length (b .reals)) (2 ^ n)) (lengths .0));
-      imags = eqb-true (length (b .imags)) (2 ^ n) (not-false (eqb (length (b .imags)) (2 ^ n)) (lengths .1));
-      qubit = leb-false n t (qubits .0);
-      inside = leb-false (2 ^ n) (c .ones) (qubits .1);
-      free = zero-bit t (c .ones) (t4 .0);
+      seated = record {
+        some = ltb-false n 1 (size .0);
+        fits = ltb-false 24 n (size .1);
+        reals = eqb-true (length (b .reals)) (2 ^ n) (not-false (eqb (length (b .reals)) (2 ^ n)) (lengths .0));
+        imags = eqb-true (length (b .imags)) (2 ^ n) (not-false (eqb (length (b .imags)) (2 ^ n)) (lengths .1));
+        qubit = leb-false n t (qubits .0);
+        inside = leb-false (2 ^ n) (c .ones) (qubits .1);
+        free = zero-bit t (c .ones) (t4 .0);
+      };
       within = ltb-false (g .most) (count c) (t5 .0);
       finite = not-false (allFinite (g .numbers)) (t6 .0);
     }

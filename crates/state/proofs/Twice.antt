@@ -68,7 +68,7 @@ module _ (k : ℕ) (b work : Buffers) {b′ : Buffers} (does : Does (unless k b 
 
 pub x-calls-twice : (n t : ℕ) (c : Controls) (b b′ b″ : Buffers) → Does (kernel xGate n t c b) Taken b′ → Does (kernel xGate n t c b′) Taken b″ → b″ ≡ b
 x-calls-twice n t c b b′ b″ d e =
-    let ok = accepted xGate n t c b (not-refused (kernelRefusal xGate n t c b) b (onPairs xRule n t c b) d) in
+    let ok = accepted xGate n t c b (not-refused (kernelRefusal xGate n t c b) b (onPairs xRule n t c b) d) .seated in
     worked (kernelRefusal xGate n t c b′) b′ (onPairs xRule n t c b′) e
     ∙ ap (onPairs xRule n t c) (worked (kernelRefusal xGate n t c b) b (onPairs xRule n t c b) d)
     ∙ x-twice n t c (ok .qubit) (ok .free) b (ok .reals) (ok .imags)

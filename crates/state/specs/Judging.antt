@@ -21,8 +21,8 @@ verdict (suc k) = refused (suc k)
 abbrev pub Judged : ℕ → List Float → ℕ → ℕ → Controls → Buffers → Answer → Type 0
 Judged most numbers n target controls b r = says r ≡ verdict (kernelRefusal (pairGate (λ p. p) most numbers) n target controls b)
 
--- what holds of a call that no test refuses
-pub record Accepted (g : PairGate) (n target : ℕ) (controls : Controls) (b : Buffers) : Type 0 where
+-- what holds of a call that tests 1 to 4 let pass
+pub record Seated (n target : ℕ) (controls : Controls) (b : Buffers) : Type 0 where
   pub some : 1 ≤ n
   pub fits : n ≤ 24
   pub reals : length (b .reals) ≡ 2 ^ n
@@ -30,5 +30,9 @@ pub record Accepted (g : PairGate) (n target : ℕ) (controls : Controls) (b : B
   pub qubit : target < n
   pub inside : controls .ones < 2 ^ n
   pub free : bit target (controls .ones) ≡ 0
+
+-- and of one that no test refuses
+pub record Accepted (g : PairGate) (n target : ℕ) (controls : Controls) (b : Buffers) : Type 0 where
+  pub seated : Seated n target controls b
   pub within : count controls ≤ g .most
   pub finite : allFinite (g .numbers) ≡ true

@@ -1,0 +1,2 @@
+-- What the rules have in common.
+pub mod Uppers
