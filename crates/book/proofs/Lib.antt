@@ -12,3 +12,4 @@ pub mod Refusals
 pub mod Twice
 pub mod Agree
 pub mod Calls
+pub mod Zero

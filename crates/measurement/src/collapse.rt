@@ -1,0 +1,61 @@
+// The chosen half is multiplied by r, and the other half becomes +0.0, block by block.
+ghost use mathlib.Core.Bool.{Bool};
+ghost use mathlib.Core.Path.{_≡_};
+ghost use Prim.Native.Nat.{ℕ, _+_, _≤_, _<_, _^_};
+ghost use Rattle.book.specs.Answers.{buffers};
+ghost use Rattle.book.specs.Measuring.{collapsed};
+ghost use Rattle.book.specs.State.{at, held};
+ghost use Rattle.measurement.specs.Steps.{Sized, Stretch, kept, cleared, halfOf, Turns};
+
+// A stretch of the chosen half.
+fn scale(reals: &mut [f64], imags: &mut [f64], from: usize, to: usize, r: f64)
+    requires { ⌜ Stretch from to (buffers (now reals) (now imags)) ⌝ }
+    ensures { λ _. ⌜ Turns (λ i. kept r) from to (buffers (now (reals .entry)) (now (imags .entry))) (buffers (now (reals .exit)) (now (imags .exit))) ⌝ }
+{
+    let mut i = from;
+    while i < to {
+        reals[i] = reals[i] * r;
+        imags[i] = imags[i] * r;
+        i += 1;
+    }
+}
+
+// A stretch of the other half.
+fn clear(reals: &mut [f64], imags: &mut [f64], from: usize, to: usize)
+    requires { ⌜ Stretch from to (buffers (now reals) (now imags)) ⌝ }
+    ensures { λ _. ⌜ Turns (λ i. cleared) from to (buffers (now (reals .entry)) (now (imags .entry))) (buffers (now (reals .exit)) (now (imags .exit))) ⌝ }
+{
+    let mut i = from;
+    while i < to {
+        reals[i] = 0.0;
+        imags[i] = 0.0;
+        i += 1;
+    }
+}
+
+fn collapse_half(reals: &mut [f64], imags: &mut [f64], from: usize, to: usize, chosen: bool, r: f64)
+    requires { ⌜ Stretch from to (buffers (now reals) (now imags)) ⌝ }
+    ensures { λ _. ⌜ Turns (λ i. halfOf chosen r) from to (buffers (now (reals .entry)) (now (imags .entry))) (buffers (now (reals .exit)) (now (imags .exit))) ⌝ }
+{
+    if chosen {
+        scale(reals, imags, from, to, r);
+        return;
+    }
+    clear(reals, imags, from, to);
+}
+
+pub(crate) fn collapse(reals: &mut [f64], imags: &mut [f64], n: u32, target: u32, outcome: u8, r: f64)
+    requires { ⌜ Sized n target (buffers (now reals) (now imags)) ⌝ }
+    ensures { λ _. ⌜ buffers (now (reals .exit)) (now (imags .exit)) ≡ held (2 ^ n) (collapsed target outcome r (at (buffers (now (reals .entry)) (now (imags .entry))))) ⌝ }
+{
+    let size: usize = 1 << n;
+    let bit: usize = 1 << target;
+    let mut base = 0;
+    while base < size {
+        let middle = base + bit;
+        let end = middle + bit;
+        collapse_half(reals, imags, base, middle, outcome == 0, r);
+        collapse_half(reals, imags, middle, end, outcome == 1, r);
+        base = end;
+    }
+}

@@ -1,0 +1,3 @@
+// stub
+mod collapse;
+mod probability;
