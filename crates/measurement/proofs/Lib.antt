@@ -2,3 +2,4 @@
 pub mod Blocks
 pub mod Sums
 pub mod Turns
+pub mod Measured

@@ -1,17 +1,21 @@
 -- What the steps of a measurement ask and leave. Definitions only. Assumes nothing.
 use Prim.Native.Nat.{ℕ, _≤_, _<_, _^_}
-use mathlib.Core.Bool.{Bool, cond}
+use mathlib.Core.Bool.{Bool, cond, _&&_}
 use mathlib.Core.Path.{_≡_}
+use lib.Dec.{eqb}
 use lib.Ieee.{Float}
 use lib.ListN.{length}
 use Rattle.book.specs.Answers.{Buffers}
-use Rattle.book.specs.Gates.{_⊗_, nought}
-use Rattle.book.specs.State.{amplitude, at, bit}
+use Rattle.book.specs.Gates.{_⊗_, nought, xRule}
+use Rattle.book.specs.Kernels.{uncontrolled}
+use Rattle.book.specs.State.{amplitude, at, bit, onPairs}
 use Rattle.book.specs.declared.Amplitude.{Amplitude}
+use Rattle.book.specs.declared.Forced.{Forced}
 use Rattle.state.specs.Pairs.{SameSize, Turned}
 
 -- buffers of n qubits, of which the target is one
 pub record Sized (n target : ℕ) (b : Buffers) : Type 0 where
+  pub some : 1 ≤ n
   pub fits : n ≤ 24
   pub qubit : target < n
   pub reals : length (b .reals) ≡ 2 ^ n
@@ -42,3 +46,7 @@ halfOf chosen r z = cond chosen (kept r z) (cleared z)
 pub record Turns (f : ℕ → Amplitude → Amplitude) (from to : ℕ) (b b′ : Buffers) : Type 0 where
   pub size : SameSize b b′
   pub turned : Turned f from to (at b) (at b′)
+
+-- if the outcome is 1 and reset is 1, X follows
+abbrev pub Reset : ℕ → ℕ → Forced → Buffers → Buffers → Type 0
+Reset n target forced b b′ = b′ ≡ cond (eqb (forced .outcome) 1 && eqb (forced .reset) 1) (onPairs xRule n target uncontrolled b) b

@@ -44,7 +44,14 @@ fn collapse_half(reals: &mut [f64], imags: &mut [f64], from: usize, to: usize, c
     clear(reals, imags, from, to);
 }
 
-pub(crate) fn collapse(reals: &mut [f64], imags: &mut [f64], n: u32, target: u32, outcome: u8, r: f64)
+pub(crate) fn collapse(
+    reals: &mut [f64],
+    imags: &mut [f64],
+    n: u32,
+    target: u32,
+    outcome: u8,
+    r: f64,
+)
     requires { ⌜ Sized n target (buffers (now reals) (now imags)) ⌝ }
     ensures { λ _. ⌜ buffers (now (reals .exit)) (now (imags .exit)) ≡ held (2 ^ n) (collapsed target outcome r (at (buffers (now (reals .entry)) (now (imags .entry))))) ⌝ }
 {

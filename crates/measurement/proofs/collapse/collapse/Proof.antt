@@ -30,7 +30,7 @@ add-middle : tie.Need-add-middle Inv-loop μ-loop
 add-middle c =
     let ok = c .before .before .before .before .pre in
     let bt = shl-is (c .before .before .before .before .args .target) (small ok) in
-    let l = rw (shl-is (c .before .before .before .before .args .n) (ok .fits)) at (c  .loop-test .taken) in
+    let l = rw (shl-is (c .before .before .before .before .args .n) (ok .fits)) at (c .loop-test .taken) in
     let u = c .before .loop .inv in
     rw bt (record { fits = place-fits (ok .fits) (omega (arith, block-room ok u l)) })
 
@@ -38,7 +38,7 @@ add-end : tie.Need-add-end Inv-loop μ-loop
 add-end c =
     let ok = c .before .before .before .before .pre in
     let bt = shl-is (c .before .before .before .before .args .target) (small ok) in
-    let l = rw (shl-is (c .before .before .before .before .args .n) (ok .fits)) at (c  .loop-test .taken) in
+    let l = rw (shl-is (c .before .before .before .before .args .n) (ok .fits)) at (c .loop-test .taken) in
     let u = c .before .loop .inv in
     rw bt (record { fits = place-fits (ok .fits) (block-room ok u l) })
 

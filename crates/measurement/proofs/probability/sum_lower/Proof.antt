@@ -38,7 +38,7 @@ add-squares-requires : tie.Need-add-squares-requires Inv-loop μ-loop
 add-squares-requires c κs =
     let ok = c .before .before .before .before .pre in
     let bt = shl-is (c .before .before .before .before .args .target) (small ok) in
-    let l = rw (shl-is (c .before .before .before .before .args .n) (ok .fits)) at (c  .loop-test .taken) in
+    let l = rw (shl-is (c .before .before .before .before .args .n) (ok .fits)) at (c .loop-test .taken) in
     let u = c .before .loop .inv in
     (rw bt (block-lower ok u l), u .so-far)
 

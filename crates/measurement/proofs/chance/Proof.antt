@@ -1,0 +1,17 @@
+-- `measurement::chance` meets its contract, by the outcome. Assumes nothing.
+use borrow.Author.Needs.{needs}
+use Rattle.measurement.proofs.Measured.{chance-0, chance-1}
+use Rattle.measurement.proofs.chance.Statement.{statement}
+use Rattle.measurement.proofs.chance.Tie as tie
+
+sum-lower-requires : tie.Need-sum-lower-requires
+sum-lower-requires c κs = search needs
+
+returns : tie.Need-returns
+returns c = chance-0 _ _ _ _ (c .if1 .taken) (c .before .sum-lower .ensures)
+
+returns-2 : tie.Need-returns-2
+returns-2 c = chance-1 _ _ _ _ (c .if1 .left) (c .before .sum-lower .ensures)
+
+pub chance-spec : {M : Type 1} → statement M
+chance-spec = tie.close (tie.spec sum-lower-requires returns returns-2)
