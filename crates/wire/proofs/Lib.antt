@@ -1,0 +1,4 @@
+-- The laws that the reader, the writer and the round trips share.
+pub mod Numbers
+pub mod Floats
+pub mod Fields
