@@ -10,7 +10,7 @@ use lib.Dec.{leb, eqb}
 use lib.ListN.{length, getD, take, drop, length-append, length-drop, take-append-drop}
 use lib.Seq.{take-append-seam, drop-append-seam, drop-append-add, length-take-le}
 use borrow.Author.Tests.{eq-eqb, le-leb, eqb-true, leb-true}
-use Rattle.book.specs.Records.{bytes, number, field, starts, listed}
+use Rattle.book.specs.Records.{number, field, starts, listed}
 use Rattle.wire.specs.Bytes.{Bytes}
 use Rattle.wire.proofs.Numbers.{bytes-drop, bytes-take}
 

@@ -10,7 +10,7 @@ use lib.ListN.{length, getD, take, drop, length-drop, take-append-drop, drop-of-
 use lib.Seq.{drop-append-add, drop-drop, length-take-le}
 use Rattle.book.specs.Records.{bytes, number, floats, float}
 use Rattle.wire.specs.Bytes.{Bytes, Each, IsF64, NotNan}
-use Rattle.wire.proofs.Numbers.{length-bytes, number-bytes, number-lt, bytes-drop, bytes-take, bytes-back}
+use Rattle.wire.proofs.Numbers.{number-bytes, number-lt, bytes-drop, bytes-take, bytes-back}
 
 pub length-floats : (xs : List Float) → length (floats xs) ≡ 8 * length xs
 length-floats [] = refl

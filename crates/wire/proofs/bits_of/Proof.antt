@@ -1,6 +1,6 @@
 -- `wire::bits_of` gives `toBits` of every f64: a NaN is the one value that differs from itself, and has the bits of the one NaN. Assumes nothing.
 use mathlib.Core.Path.{_≡_, sym, ap, subst}
-use mathlib.Core.Bool.{Bool, true, false, not}
+use mathlib.Core.Bool.{true, false, not}
 use lib.Dec.{T}
 use lib.Ieee.{Float, nan, inf, fin, binary64, ne, isNan, toBits}
 use lib.Ieee.Compare.{differs-from-itself}

@@ -1,0 +1,4 @@
+-- What the reader's proofs share.
+mod Places
+mod Answered
+mod Codes
