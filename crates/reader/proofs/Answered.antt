@@ -22,15 +22,16 @@ use Rattle.book.specs.declared.Record.{Record}
 use Rattle.wire.specs.Bytes.{Bytes}
 use Rattle.wire.proofs.Fields.{has-room}
 use Rattle.wire.proofs.Numbers.{bytes-take, bytes-drop}
-use Rattle.reader.specs.Answers.{numberOf, maskOf, pairOf, eightOf, holding, numberField, maskField, pair, pairField, anglesField}
-use Rattle.reader.specs.declared.answers.Field.{Field}
-use Rattle.reader.specs.declared.answers.Field.the-variants.{Number, Missing}
+use Rattle.fields.specs.Answers.{numberOf, pairOf, eightOf, holding, numberField, pair, pairField, anglesField}
+use Rattle.reader.specs.Answers.{maskOf, maskField}
+use Rattle.fields.specs.declared.Field.{Field}
+use Rattle.fields.specs.declared.Field.the-variants.{Number, Missing}
 use Rattle.reader.specs.declared.answers.MaskField.{MaskField}
 use Rattle.reader.specs.declared.answers.MaskField.the-variants.{Controls as Mask, Missing as NoMask}
-use Rattle.reader.specs.declared.answers.PairField.{PairField}
-use Rattle.reader.specs.declared.answers.PairField.the-variants.{Floats, Missing as NoPair}
-use Rattle.reader.specs.declared.answers.AnglesField.{AnglesField}
-use Rattle.reader.specs.declared.answers.AnglesField.the-variants.{Angles as Eight, Missing as NoAngles}
+use Rattle.fields.specs.declared.PairField.{PairField}
+use Rattle.fields.specs.declared.PairField.the-variants.{Floats, Missing as NoPair}
+use Rattle.fields.specs.declared.AnglesField.{AnglesField}
+use Rattle.fields.specs.declared.AnglesField.the-variants.{Angles as Eight, Missing as NoAngles}
 
 -- ---- going on from what is there
 
@@ -189,7 +190,8 @@ module _ (s : List ℕ) where
   noisy-by g = pair-by 0x0a 20 (λ x y. g (record { prob = x; draw = y }))
 
   number-last : (tag width at : ℕ) (g : ℕ → Gate)
-      → listed tag width (drop at s) (λ c rest. last rest (g (number c))) ≡ onNumber (numberField tag width (drop at s)) (λ n. ending s (at + (3 + width)) (g n))
+      → listed tag width (drop at s) (λ c rest. last rest (g (number c)))
+      ≡ onNumber (numberOf (holding number tag width (drop at s))) (λ n. ending s (at + (3 + width)) (g n))
   number-last tag width at g =
       goes-last number tag width at s g ∙ then-number (holding number tag width (drop at s)) (λ n. ending s (at + (3 + width)) (g n))
 
@@ -203,7 +205,8 @@ module _ (s : List ℕ) where
 
   -- the first four fields
   number-then : {B : Type 0} (tag width at : ℕ) (go : ℕ → List ℕ → Option B)
-      → listed tag width (drop at s) (λ c rest. go (number c) rest) ≡ onNumber (numberField tag width (drop at s)) (λ n. go n (drop (at + (3 + width)) s))
+      → listed tag width (drop at s) (λ c rest. go (number c) rest)
+      ≡ onNumber (numberOf (holding number tag width (drop at s))) (λ n. go n (drop (at + (3 + width)) s))
   number-then tag width at go =
       goes-on number tag width at s go ∙ then-number (holding number tag width (drop at s)) (λ n. go n (drop (at + (3 + width)) s))
 

@@ -1,4 +1,3 @@
 -- What the reader's proofs share.
-mod Places
 mod Answered
 mod Codes

@@ -4,19 +4,19 @@ ghost use Prim.Native.Nat.{_<_};
 ghost use lib.ListN.{drop};
 ghost use Rattle.book.specs.Records.{plain, angled, eight, second, forced, noisy, readGate};
 ghost use Rattle.reader.specs.Answers.{madeOf, maskField, plainGate, angledGate};
-use crate::answers::AnglesField;
-use crate::answers::Field;
 use crate::answers::Made;
 use crate::answers::MaskField;
-use crate::answers::PairField;
-use crate::fields::angles_field;
-use crate::fields::number_field;
-use crate::fields::pair_field;
 use book::Angle;
 use book::Controls;
 use book::Forced;
 use book::Gate;
 use book::Noise;
+use fields::AnglesField;
+use fields::Field;
+use fields::PairField;
+use fields::angles_field;
+use fields::number_field;
+use fields::pair_field;
 
 // Field 05.
 fn mask_field(bytes: &[u8]) -> MaskField

@@ -3,16 +3,15 @@ ghost use mathlib.Core.Path.{_≡_};
 ghost use Rattle.book.specs.Records.{readOf, readRecord};
 
 mod answers;
-mod fields;
 mod gates;
 
-use crate::answers::Field;
 use crate::answers::Made;
-use crate::fields::number_field;
 use crate::gates::read_gate;
 use book::Read;
 use book::Record;
 use book::Refusal;
+use fields::Field;
+use fields::number_field;
 
 // Fields 01 to 04, and then by code.
 pub fn read_record(bytes: &[u8]) -> Read

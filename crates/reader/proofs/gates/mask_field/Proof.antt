@@ -3,10 +3,11 @@ use native.Mathlib.Omega.{arith}
 use mathlib.Core.Path.{_≡_, sym, _∙_}
 use mathlib.Core.Option.{Option, some, none}
 use Prim.Native.Nat.{ℕ}
-use Rattle.reader.specs.Answers.{numberOf, maskOf, holding}
+use Rattle.fields.specs.Answers.{numberOf, holding}
+use Rattle.reader.specs.Answers.{maskOf}
 use Rattle.book.specs.Records.{number}
 use lib.ListN.{drop}
-use Rattle.reader.specs.declared.answers.Field.the-variants.{Number, Missing}
+use Rattle.fields.specs.declared.Field.the-variants.{Number, Missing}
 use Rattle.reader.specs.declared.answers.MaskField.the-variants.{Controls, Missing as NoMask}
 use borrow.Author.Needs.{needs}
 use Rattle.reader.proofs.gates.mask_field.Statement.{statement}

@@ -1,13 +1,31 @@
-// Fields at a place of the bytes: a number, or two or eight floats, or that the field is not there as listed.
+// Fields of a gate record, read at a place of the bytes. Each answers what it holds, or that it is not there as listed.
 ghost use mathlib.Core.Path.{_≡_};
 ghost use Prim.Native.Nat.{ℕ, _+_, _*_, _^_, _≤_, _<_};
 ghost use lib.ListN.{length, take, drop};
 ghost use Rattle.book.specs.Records.{number, starts, float, readAngles};
-ghost use Rattle.reader.specs.Answers.{numberField, pairField, anglesField};
-use crate::answers::AnglesField;
-use crate::answers::Field;
-use crate::answers::PairField;
+ghost use Rattle.fields.specs.Answers.{numberField, pairField, anglesField};
 use book::Angles;
+
+// What a field of one number answers.
+pub enum Field {
+    Number(u64),
+    Missing,
+}
+
+// What a field of two floats answers.
+pub enum PairField {
+    Floats(f64, f64),
+    Missing,
+}
+
+// What a field of the eight numbers of U answers.
+pub enum AnglesField {
+    Angles(Angles),
+    Missing,
+}
+
+// A number has at most so many bytes.
+const WIDEST: usize = 8;
 
 // The number that as many bytes as the width are, the first the highest.
 fn number_at(bytes: &[u8], at: usize, width: usize) -> u64
@@ -41,12 +59,14 @@ fn starts_at(bytes: &[u8], at: usize, tag: u8, len: usize) -> bool
     number_at(bytes, at + 1, 2) == len as u64
 }
 
-// The field of one number that is listed at the place.
+// The field of one number that is listed at the place. A field of more than 8 bytes holds none.
 pub fn number_field(bytes: &[u8], at: usize, tag: u8, width: usize) -> Field
-    requires { ⌜ width ≤ 8 ⌝ }
     ensures is { λ r. ⌜ r ≡ numberField tag width (drop at (now (bytes .entry))) ⌝ }
     ensures small { λ r. ⌜ ((n : ℕ) → r ≡ Field.Number n → n < 256 ^ width) ⌝ }
 {
+    if WIDEST < width {
+        return Field::Missing;
+    }
     if starts_at(bytes, at, tag, width) {
         Field::Number(number_at(bytes, at + 3, width))
     } else {

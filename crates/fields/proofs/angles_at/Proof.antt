@@ -1,7 +1,7 @@
--- `reader::fields::angles_at` reads the eight floats of U, in 01's order. Assumes nothing.
+-- `fields::angles_at` reads the eight floats of U, in 01's order. Assumes nothing.
 use borrow.Author.Needs.{needs}
-use Rattle.reader.proofs.fields.angles_at.Statement.{statement}
-use Rattle.reader.proofs.fields.angles_at.Tie as tie
+use Rattle.fields.proofs.angles_at.Statement.{statement}
+use Rattle.fields.proofs.angles_at.Tie as tie
 
 float-at-requires : tie.Need-float-at-requires
 float-at-requires c κs = search needs

@@ -1,4 +1,4 @@
--- `reader::fields::angles_field` answers the eight floats of the field that is listed. Assumes nothing.
+-- `fields::angles_field` answers the eight floats of the field that is listed. Assumes nothing.
 use Prim.Native.Nat.{ℕ, _+_, _≤_}
 use native.Mathlib.Omega.{arith}
 use mathlib.Core.Bool.{true}
@@ -7,12 +7,12 @@ use lib.ListN.{length, take, drop}
 use mathlib.Core.List.{List}
 use mathlib.Core.Option.{some}
 use Rattle.book.specs.Records.{starts, readAngles}
-use Rattle.reader.specs.Answers.{eightOf}
-use Rattle.reader.specs.declared.answers.AnglesField.the-variants.{Angles as Eight}
-use Rattle.reader.proofs.Places.{here-room, here, gone, float-take}
+use Rattle.fields.specs.Answers.{eightOf}
+use Rattle.fields.specs.declared.AnglesField.the-variants.{Angles as Eight}
+use Rattle.fields.proofs.Places.{here-room, here, gone, float-take}
 use borrow.Author.Needs.{needs}
-use Rattle.reader.proofs.fields.angles_field.Statement.{statement}
-use Rattle.reader.proofs.fields.angles_field.Tie as tie
+use Rattle.fields.proofs.angles_field.Statement.{statement}
+use Rattle.fields.proofs.angles_field.Tie as tie
 
 there : (c : tie.Then1) → let a = c .before .before .before .args in starts (a .tag) 64 (drop (a .at) (a .bytes .now)) ≡ true
 there c = sym (c .before .starts-at .ensures) ∙ c .if1 .taken

@@ -1,10 +1,10 @@
--- `reader::fields::float_at` reads the float whose bits stand there. Assumes nothing.
+-- `fields::float_at` reads the float whose bits stand there. Assumes nothing.
 use mathlib.Core.Path.{ap, _∙_}
 use lib.Ieee.{binary64, ofBits}
 use lib.Seq.{drop-drop}
 use borrow.Author.Needs.{needs}
-use Rattle.reader.proofs.fields.float_at.Statement.{statement}
-use Rattle.reader.proofs.fields.float_at.Tie as tie
+use Rattle.fields.proofs.float_at.Statement.{statement}
+use Rattle.fields.proofs.float_at.Tie as tie
 
 mul-number-at : tie.Need-mul-number-at
 mul-number-at c = search needs

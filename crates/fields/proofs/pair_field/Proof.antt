@@ -1,4 +1,4 @@
--- `reader::fields::pair_field` answers the two floats of the field that is listed. Assumes nothing.
+-- `fields::pair_field` answers the two floats of the field that is listed. Assumes nothing.
 use Prim.Native.Nat.{_+_, _≤_}
 use native.Mathlib.Omega.{arith}
 use mathlib.Core.Bool.{true}
@@ -6,12 +6,12 @@ use mathlib.Core.Path.{_≡_, sym, ap, _∙_}
 use lib.ListN.{length, drop}
 use mathlib.Core.Option.{some}
 use Rattle.book.specs.Records.{starts}
-use Rattle.reader.specs.Answers.{pair, pairOf}
-use Rattle.reader.specs.declared.answers.PairField.the-variants.{Floats}
-use Rattle.reader.proofs.Places.{here-room, here, gone, float-take}
+use Rattle.fields.specs.Answers.{pair, pairOf}
+use Rattle.fields.specs.declared.PairField.the-variants.{Floats}
+use Rattle.fields.proofs.Places.{here-room, here, gone, float-take}
 use borrow.Author.Needs.{needs}
-use Rattle.reader.proofs.fields.pair_field.Statement.{statement}
-use Rattle.reader.proofs.fields.pair_field.Tie as tie
+use Rattle.fields.proofs.pair_field.Statement.{statement}
+use Rattle.fields.proofs.pair_field.Tie as tie
 
 there : (c : tie.Then1) → let a = c .before .before .before .args in starts (a .tag) 16 (drop (a .at) (a .bytes .now)) ≡ true
 there c = sym (c .before .starts-at .ensures) ∙ c .if1 .taken
