@@ -18,8 +18,8 @@ use Rattle.book.specs.declared.Controls.{Controls}
 use Rattle.book.specs.declared.Forced.{Forced}
 use Rattle.book.specs.declared.Gate.{Gate}
 use Rattle.book.specs.declared.Noise.{Noise}
-use Rattle.book.specs.declared.Record.{Record}
 use Rattle.wire.specs.Bytes.{Bytes}
+use Rattle.wire.proofs.After.{after1, after2, after3, after4}
 use Rattle.wire.proofs.Fields.{has-room}
 use Rattle.wire.proofs.Numbers.{bytes-take, bytes-drop}
 use Rattle.fields.specs.Answers.{numberOf, pairOf, eightOf, holding, numberField, pair, pairField, anglesField}
@@ -137,20 +137,6 @@ two-bytes s h g = by (starts 0x09 2 (drop 20 s)) refl
         let size : length (contents 2 20 s) ≡ 2 = length-take-le 2 (drop 3 (drop 20 s)) (rw length-drop (omega (arith, has-room 0x09 2 (drop 20 s) e))) in
         ap (λ (f : Forced). last (drop 5 (drop 20 s)) (g f)) (forced-is (contents 2 20 s) (bytes-take 2 (drop 3 (drop 20 s)) (bytes-drop 3 (drop 20 s) (bytes-drop 20 s h))) size)
     by false e = refl
-
--- ---- what a record reads, field after field
-
-abbrev after4 : ℕ → ℕ → ℕ → ℕ → List ℕ → Option Record
-after4 session k code target rest = made session k (readGate code target rest)
-
-abbrev after3 : ℕ → ℕ → ℕ → List ℕ → Option Record
-after3 session k code rest = listed 0x04 1 rest λ target. after4 session k code (number target)
-
-abbrev after2 : ℕ → ℕ → List ℕ → Option Record
-after2 session k rest = listed 0x03 1 rest λ code. after3 session k (number code)
-
-abbrev after1 : ℕ → List ℕ → Option Record
-after1 session rest = listed 0x02 2 rest λ k. after2 session (number k)
 
 -- ---- a gate, by code
 

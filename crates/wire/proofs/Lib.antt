@@ -2,3 +2,4 @@
 pub mod Numbers
 pub mod Floats
 pub mod Fields
+pub mod After
