@@ -1,0 +1,2 @@
+-- What the field readers answer.
+pub mod Answers

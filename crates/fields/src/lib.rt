@@ -1,0 +1,122 @@
+// Fields of a gate record, read at a place of the bytes. Each answers what it holds, or that it is not there as listed.
+ghost use mathlib.Core.Path.{_≡_};
+ghost use Prim.Native.Nat.{ℕ, _+_, _*_, _^_, _≤_, _<_};
+ghost use lib.ListN.{length, take, drop};
+ghost use Rattle.book.specs.Records.{number, starts, float, readAngles};
+ghost use Rattle.fields.specs.Answers.{numberField, pairField, anglesField};
+use book::Angles;
+
+// What a field of one number answers.
+pub enum Field {
+    Number(u64),
+    Missing,
+}
+
+// What a field of two floats answers.
+pub enum PairField {
+    Floats(f64, f64),
+    Missing,
+}
+
+// What a field of the eight numbers of U answers.
+pub enum AnglesField {
+    Angles(Angles),
+    Missing,
+}
+
+// A number has at most so many bytes.
+const WIDEST: usize = 8;
+
+// The number that as many bytes as the width are, the first the highest.
+fn number_at(bytes: &[u8], at: usize, width: usize) -> u64
+    requires { ⌜ (width ≤ 8) × (at + width ≤ length (now bytes)) ⌝ }
+    ensures { λ r. ⌜ (r ≡ number (take width (drop at (now (bytes .entry))))) × (r < 256 ^ width) ⌝ }
+{
+    let mut n: u64 = 0;
+    let mut i: usize = 0;
+    while i < width {
+        let byte = bytes[at + i] as u64;
+        n = n * 256 + byte;
+        i += 1;
+    }
+    n
+}
+
+// Whether a field of this tag and this length stands at the place.
+fn starts_at(bytes: &[u8], at: usize, tag: u8, len: usize) -> bool
+    requires { ⌜ len ≤ 64 ⌝ }
+    ensures { λ r. ⌜ r ≡ starts tag len (drop at (now (bytes .entry))) ⌝ }
+{
+    if bytes.len() < at {
+        return false;
+    }
+    if bytes.len() - at < 3 + len {
+        return false;
+    }
+    if bytes[at] != tag {
+        return false;
+    }
+    number_at(bytes, at + 1, 2) == len as u64
+}
+
+// The field of one number that is listed at the place. A field of more than 8 bytes holds none.
+pub fn number_field(bytes: &[u8], at: usize, tag: u8, width: usize) -> Field
+    ensures is { λ r. ⌜ r ≡ numberField tag width (drop at (now (bytes .entry))) ⌝ }
+    ensures small { λ r. ⌜ ((n : ℕ) → r ≡ Field.Number n → n < 256 ^ width) ⌝ }
+{
+    if WIDEST < width {
+        return Field::Missing;
+    }
+    if starts_at(bytes, at, tag, width) {
+        Field::Number(number_at(bytes, at + 3, width))
+    } else {
+        Field::Missing
+    }
+}
+
+// The f64 at the place that is i floats behind the start.
+fn float_at(bytes: &[u8], start: usize, i: usize) -> f64
+    requires { ⌜ (i < 8) × (start + 8 * i + 8 ≤ length (now bytes)) ⌝ }
+    ensures { λ r. ⌜ r ≡ float (drop start (now (bytes .entry))) i ⌝ }
+{
+    wire::float_of(number_at(bytes, start + 8 * i, 8))
+}
+
+// The field of two floats that is listed at the place.
+pub fn pair_field(bytes: &[u8], at: usize, tag: u8) -> PairField
+    ensures { λ r. ⌜ r ≡ pairField tag (drop at (now (bytes .entry))) ⌝ }
+{
+    if starts_at(bytes, at, tag, 16) {
+        PairField::Floats(float_at(bytes, at + 3, 0), float_at(bytes, at + 3, 1))
+    } else {
+        PairField::Missing
+    }
+}
+
+// The eight floats from the place on.
+fn angles_at(bytes: &[u8], at: usize) -> Angles
+    requires { ⌜ at + 64 ≤ length (now bytes) ⌝ }
+    ensures { λ r. ⌜ r ≡ readAngles (drop at (now (bytes .entry))) ⌝ }
+{
+    Angles {
+        ct: float_at(bytes, at, 0),
+        st: float_at(bytes, at, 1),
+        cl: float_at(bytes, at, 2),
+        sl: float_at(bytes, at, 3),
+        cpl: float_at(bytes, at, 4),
+        spl: float_at(bytes, at, 5),
+        cp: float_at(bytes, at, 6),
+        sp: float_at(bytes, at, 7),
+    }
+}
+
+// The field of eight floats that is listed at the place.
+pub fn angles_field(bytes: &[u8], at: usize, tag: u8) -> AnglesField
+    ensures { λ r. ⌜ r ≡ anglesField tag (drop at (now (bytes .entry))) ⌝ }
+{
+    if starts_at(bytes, at, tag, 64) {
+        AnglesField::Angles(angles_at(bytes, at + 3))
+    } else {
+        AnglesField::Missing
+    }
+}

@@ -1,0 +1,3 @@
+-- What the reader's proofs share.
+mod Answered
+mod Codes

@@ -1,0 +1,2 @@
+-- What the reader's own functions answer.
+pub mod Answers

@@ -1,0 +1,40 @@
+// The reader of gate records: it takes each field's answer apart, and leaves at the first field that is not there as listed.
+ghost use mathlib.Core.Path.{_≡_};
+ghost use Rattle.book.specs.Records.{readOf, readRecord};
+
+mod answers;
+mod gates;
+
+use crate::answers::Made;
+use crate::gates::read_gate;
+use book::Read;
+use book::Record;
+use book::Refusal;
+use fields::Field;
+use fields::number_field;
+
+// Fields 01 to 04, and then by code.
+pub fn read_record(bytes: &[u8]) -> Read
+    ensures { λ r. ⌜ r ≡ readOf (readRecord (now (bytes .entry))) ⌝ }
+{
+    let Field::Number(session) = number_field(bytes, 0, 0x01, 4) else {
+        return Read::Refused(Refusal::Record);
+    };
+    let Field::Number(number) = number_field(bytes, 7, 0x02, 2) else {
+        return Read::Refused(Refusal::Record);
+    };
+    let Field::Number(code) = number_field(bytes, 12, 0x03, 1) else {
+        return Read::Refused(Refusal::Record);
+    };
+    let Field::Number(target) = number_field(bytes, 16, 0x04, 1) else {
+        return Read::Refused(Refusal::Record);
+    };
+    let Made::Gate(gate) = read_gate(bytes, code, target as u8) else {
+        return Read::Refused(Refusal::Record);
+    };
+    Read::Record(Record {
+        session: session as u32,
+        number: number as u16,
+        gate,
+    })
+}

@@ -1,0 +1,5 @@
+-- The proofs of specs/RoundTrips.
+pub mod ThereAndBack
+pub mod BackAndThere
+pub mod Sizes
+pub mod Agree

@@ -1,0 +1,2 @@
+-- Records written and read.
+pub mod RoundTrips

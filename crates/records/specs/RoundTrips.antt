@@ -1,0 +1,96 @@
+-- Records written and read back, and bytes read and written back: the statements, which proofs/ shows. Definitions only. Assumes nothing.
+-- The logic has one NaN. So a record with a NaN reads back as written too; bytes with another NaN than 7FF8000000000000 do not write back.
+use Prim.Native.Nat.{ℕ, _≤_, _<_, _^_}
+use mathlib.Core.List.{List, []}
+use mathlib.Core.Option.{some}
+use mathlib.Core.Path.{_≡_}
+use lib.Ieee.{Float}
+use lib.ListN.{length}
+use Rattle.book.specs.Gates.{angleOf, anglesOf, noiseOf}
+use Rattle.book.specs.Records.{targetOf, writeRecord, wroteOf, leftBy, readRecord, readOf}
+use Rattle.book.specs.declared.Angles.{Angles}
+use Rattle.book.specs.declared.Controls.{Controls}
+use Rattle.book.specs.declared.Gate.{Gate}
+use Rattle.book.specs.declared.Gate.the-variants.{H, X, Y, Z, P, Rx, Ry, Rz, U, Swap, Measure, BitFlip}
+use Rattle.book.specs.declared.Read.{Read}
+use Rattle.book.specs.declared.Record.{Record}
+use Rattle.book.specs.declared.Written.{Written}
+use Rattle.wire.specs.Bytes.{Bytes, Each, IsF64, NotNan}
+
+-- ---- the records that a Record holds: each number fits its type
+
+-- a gate's numbers beside its target: the mask, the second qubit, or outcome and reset
+abbrev pub OwnFits : Gate → Type 0
+OwnFits (H t c) = c .ones < 2 ^ 32
+OwnFits (X t c) = c .ones < 2 ^ 32
+OwnFits (Y t c) = c .ones < 2 ^ 32
+OwnFits (Z t c) = c .ones < 2 ^ 32
+OwnFits (P t c a) = c .ones < 2 ^ 32
+OwnFits (Rx t c a) = c .ones < 2 ^ 32
+OwnFits (Ry t c a) = c .ones < 2 ^ 32
+OwnFits (Rz t c a) = c .ones < 2 ^ 32
+OwnFits (U t c g) = c .ones < 2 ^ 32
+OwnFits (Swap t u) = u < 256
+OwnFits (Measure t f) = (f .outcome < 256) × (f .reset < 256)
+OwnFits (BitFlip t n) = Unit
+
+-- the floats that a gate is fed
+abbrev pub floatsOf : Gate → List Float
+floatsOf (H t c) = []
+floatsOf (X t c) = []
+floatsOf (Y t c) = []
+floatsOf (Z t c) = []
+floatsOf (P t c a) = angleOf a
+floatsOf (Rx t c a) = angleOf a
+floatsOf (Ry t c a) = angleOf a
+floatsOf (Rz t c a) = angleOf a
+floatsOf (U t c g) = anglesOf g
+floatsOf (Swap t u) = []
+floatsOf (Measure t f) = []
+floatsOf (BitFlip t n) = noiseOf n
+
+pub record Held (r : Record) : Type 0 where
+  pub session : r .session < 2 ^ 32
+  pub number : r .number < 2 ^ 16
+  pub target : targetOf (r .gate) < 256
+  pub own : OwnFits (r .gate)
+  pub floats : Each IsF64 (floatsOf (r .gate))
+
+abbrev pub NoNan : Record → Type 0
+NoNan r = Each NotNan (floatsOf (r .gate))
+
+-- ---- round trips
+
+-- a record reads back as it was written, NaN or not
+abbrev pub ReadsBack : Type 0
+ReadsBack = (r : Record) → Held r → readRecord (writeRecord r) ≡ some r
+
+-- bytes that are read write back as they were, where no NaN is among the record's numbers
+abbrev pub WritesBack : Type 0
+WritesBack = (bs : List ℕ) (r : Record) → Bytes bs → readRecord bs ≡ some r → NoNan r → writeRecord r ≡ bs
+
+-- each meaning has one spelling: bytes that are read as the same record are the same, where no NaN is among its numbers
+abbrev pub OneSpelling : Type 0
+OneSpelling = (bs cs : List ℕ) (r : Record) → Bytes bs → Bytes cs → readRecord bs ≡ some r → readRecord cs ≡ some r → NoNan r → bs ≡ cs
+
+-- ---- sizes
+
+-- a record has at most 94 bytes
+abbrev pub AtMost94 : Type 0
+AtMost94 = (r : Record) → length (writeRecord r) ≤ 94
+
+-- and a U has 94
+abbrev pub UHas94 : Type 0
+UHas94 = (session number target : ℕ) (c : Controls) (g : Angles) → length (writeRecord (record { session = session; number = number; gate = U target c g })) ≡ 94
+
+-- ---- the contracts leave nothing open
+
+-- two answers that the reader's contract allows are the same
+abbrev pub ReadersAgree : Type 0
+ReadersAgree = (bs : List ℕ) (a b : Read) → a ≡ readOf (readRecord bs) → b ≡ readOf (readRecord bs) → a ≡ b
+
+-- two answers that the writer's contract allows are the same, and so is what they leave
+abbrev pub WritersAgree : Type 0
+WritersAgree =
+    (r : Record) (out : List ℕ) (a b : Written) (left other : List ℕ)
+    → a ≡ wroteOf r out → left ≡ leftBy r out → b ≡ wroteOf r out → other ≡ leftBy r out → (a ≡ b) × (left ≡ other)

@@ -1,0 +1,3 @@
+-- What the writer's proofs share.
+mod Stored
+mod Whole

@@ -1,0 +1,46 @@
+// The writer of gate records: it touches only the record's bytes and answers how many they are, or refuses with 12 and touches nothing.
+ghost use mathlib.Core.Path.{_≡_};
+ghost use Prim.Native.Nat.{_+_, _≤_, _<_};
+ghost use mathlib.Core.List.{_++_};
+ghost use lib.ListN.{length};
+ghost use Rattle.book.specs.Records.{bytes, field, wroteOf, leftBy};
+ghost use Rattle.writer.specs.Stores.{store};
+ghost use Rattle.writer.specs.Shapes.{headOf};
+
+mod shapes;
+mod stores;
+
+use crate::shapes::parts_of;
+use crate::shapes::size_of;
+use crate::shapes::store_shape;
+use crate::stores::number_field;
+use book::Record;
+use book::Refusal;
+use book::Written;
+
+// Fields 01 to 04.
+fn store_head(out: &mut [u8], session: u32, number: u16, code: u8, target: u8)
+    requires { ⌜ 20 ≤ length (now out) ⌝ }
+    ensures { λ _. ⌜ now (out .exit) ≡ store (now (out .entry)) 0 (headOf session number code target) ⌝ }
+{
+    number_field(out, 0, 0x01, 4, session as u64);
+    number_field(out, 7, 0x02, 2, number as u64);
+    number_field(out, 12, 0x03, 1, code as u64);
+    number_field(out, 16, 0x04, 1, target as u64);
+}
+
+pub fn write_record(it: Record, out: &mut [u8]) -> Written
+    ensures answers { λ r. ⌜ r ≡ wroteOf it (now (out .entry)) ⌝ }
+    ensures leaves { λ r. ⌜ now (out .exit) ≡ leftBy it (now (out .entry)) ⌝ }
+{
+    let gate = it.gate;
+    let parts = parts_of(gate);
+    let shape = parts.shape;
+    let size = size_of(shape);
+    if out.len() < size {
+        return Written::Refused(Refusal::Room);
+    }
+    store_head(out, it.session, it.number, parts.code, parts.target);
+    store_shape(out, shape);
+    Written::Bytes(size)
+}
