@@ -135,6 +135,10 @@ toBits-val f (fin t m e) s n h =
     ap₂ (λ (b : Bool) (x : ℕ). cond b (top f) 0 + (size x - prec f) * hid f + x / 2 ^ (size x - prec f)) (h .0) (ap (λ (x : ℕ). x / down e) (h .1) ∙ mul-div-cancel n (down-pos e))
     ∙ add-assoc (cond s (top f) 0) ((size n - prec f) * hid f) (n / 2 ^ (size n - prec f))
 
+pub bits-of : (f : Format) (v : Float) (s : Bool) (q k : ℕ) → q ≤ 2 ^ prec f → (0 < k → hid f ≤ q) → HasValue v s (q * 2 ^ k) (2 ^ low f)
+    → toBits f v ≡ cond s (top f) 0 + (k * hid f + q)
+bits-of f v s q k hi lo h = toBits-val f v s (q * 2 ^ k) h ∙ ap (λ (x : ℕ). cond s (top f) 0 + x) (shape f q k hi lo .written)
+
 toBits-inf : (f : Format) (s : Bool) → toBits f (inf s) ≡ cond s (top f) 0 + ones f * hid f
 unfolding toBits
 toBits-inf f s = refl
@@ -143,7 +147,7 @@ units-odd : (f : Format) (s : Bool) (q k : ℕ) → q * 2 ^ k < 2 ^ (low f + suc
 unfolding units
 units-odd f s q k h = ap (λ (b : Bool). cond b (odd (suc (prec f)) s q k (low f)) (inf s)) (lt-ltb (q * 2 ^ k) (2 ^ (low f + suc (emax f))) h)
 
-units-inf : (f : Format) (s : Bool) (q k : ℕ) → 2 ^ (low f + suc (emax f)) ≤ q * 2 ^ k → units f s q k ≡ inf s
+pub units-inf : (f : Format) (s : Bool) (q k : ℕ) → 2 ^ (low f + suc (emax f)) ≤ q * 2 ^ k → units f s q k ≡ inf s
 unfolding units
 units-inf f s q k h = ap (λ (b : Bool). cond b (odd (suc (prec f)) s q k (low f)) (inf s)) (le-ltb (q * 2 ^ k) (2 ^ (low f + suc (emax f))) h)
 
@@ -153,7 +157,7 @@ module _ (f : Format) (s : Bool) (q k : ℕ) (hi : q ≤ 2 ^ prec f) (lo : 0 < k
       let z = shape f q k hi lo in
       let u : units f s q k ≡ odd (suc (prec f)) s q k (low f) = units-odd f s q k (z .fine b) in
       let t : T (fits f (units f s q k)) = subst (λ (v : Float). T (fits f v)) (sym u) (odd-fits f (suc (prec f)) s q k (lt-of-le-of-lt hi (pow-lt (le-refl (suc (prec f))))) hi (z .fine b)) in
-      let w : toBits f (units f s q k) ≡ cond s (top f) 0 + (k * hid f + q) = toBits-val f (units f s q k) s (q * 2 ^ k) (units-val f s q k (z .fine b)) ∙ ap (λ (x : ℕ). cond s (top f) 0 + x) (z .written) in
+      let w : toBits f (units f s q k) ≡ cond s (top f) 0 + (k * hid f + q) = bits-of f (units f s q k) s q k hi lo (units-val f s q k (z .fine b)) in
       ap (ofBits f) (sym w) ∙ ofBits-toBits f (units f s q k) t
 
   pub bits-over : ones f * hid f ≤ k * hid f + q → ofBits f (cond s (top f) 0 + ones f * hid f) ≡ units f s q k
