@@ -143,7 +143,7 @@ toBits-inf : (f : Format) (s : Bool) → toBits f (inf s) ≡ cond s (top f) 0 +
 unfolding toBits
 toBits-inf f s = refl
 
-units-odd : (f : Format) (s : Bool) (q k : ℕ) → q * 2 ^ k < 2 ^ (low f + suc (emax f)) → units f s q k ≡ odd (suc (prec f)) s q k (low f)
+pub units-odd : (f : Format) (s : Bool) (q k : ℕ) → q * 2 ^ k < 2 ^ (low f + suc (emax f)) → units f s q k ≡ odd (suc (prec f)) s q k (low f)
 unfolding units
 units-odd f s q k h = ap (λ (b : Bool). cond b (odd (suc (prec f)) s q k (low f)) (inf s)) (lt-ltb (q * 2 ^ k) (2 ^ (low f + suc (emax f))) h)
 

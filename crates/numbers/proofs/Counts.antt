@@ -7,7 +7,7 @@ use native.Mathlib.Nat.{le-of-suc-le-suc, lt-of-lt-of-le, lt-of-not-le, lt-irref
 use native.Mathlib.Omega.{arith}
 use mathlib.Core.Bool.{Bool, true, false, not, _&&_, _||_, Bool·beq, cond, true≢false}
 use lib.IntN.{ℤ, pos, negsuc}
-use lib.Dec.{T, leb, ltb, eqb, ltb→lt, leb→le}
+use lib.Dec.{T, leb, ltb, eqb, ltb→lt, leb→le, eqb→eq}
 use lib.Pow.{pow-add, pow-pos, pow-lt}
 use lib.Ieee.{Float, nan, inf, fin, Format, prec, emax, low, up, down, eq, ne, fits, hid, ones, top, ofBits, toBits}
 use lib.Ieee.Fits.{up-pos, down-pos, and-l, and-r, and-i, eq→eqb, two}
@@ -69,6 +69,25 @@ counted f (fin s (suc m) e) h =
           (lt-of-mul-lt-mul-right (down e) (subst (λ (y : ℕ). y < 2 ^ suc (emax f) * 2 ^ low f * down e) (p .1) (subst (λ (y : ℕ). suc m * up e * 2 ^ low f < y) (mul-right-comm (2 ^ suc (emax f)) (down e) (2 ^ low f)) (mul-lt-mul-of-pos-right below (pow-pos (low f))))));
     }
 
+-- ---- what a count says of a value
+pub finite-of : (x : Float) (t : Bool) (w l : ℕ) → HasValue x t w l → T (finite x)
+finite-of nan t w l h = h
+finite-of (inf s) t w l h = h
+finite-of (fin s m e) t w l h = tt
+
+pub sign-of : (x : Float) (t : Bool) (w l : ℕ) → HasValue x t w l → sign x ≡ t
+sign-of nan t w l h = absurd h
+sign-of (inf s) t w l h = absurd h
+sign-of (fin s m e) t w l h = h .0
+
+pub size-of : (x : Float) (t : Bool) (w l : ℕ) → HasValue x t w l → num x * l ≡ w * den x
+size-of nan t w l h = absurd h
+size-of (inf s) t w l h = absurd h
+size-of (fin s m e) t w l h = h .1
+
+pub size-nothing : (x : Float) (t : Bool) (w l : ℕ) → 0 < l → HasValue x t w l → w ≡ 0 → num x ≡ 0
+size-nothing x t w l L h e = eq-of-mul-eq-mul-right l L (num x) 0 (size-of x t w l h ∙ ap (λ (y : ℕ). y * den x) e ∙ zero-mul (den x) ∙ sym (zero-mul l))
+
 -- ---- one count and one sign, one value
 pub same-value : (f : Format) (v w : Float) (s : Bool) (n : ℕ) → Value f v → Value f w → HasValue v s n (2 ^ low f) → HasValue w s n (2 ^ low f) → v ≡ w
 same-value f v w s n h k p q =
@@ -115,6 +134,24 @@ equal-numbers (fin r m e) (fin u k d) s t n l L p q o =
     differ true true x y h = h
     differ true false x y h = y
     differ false b x y h = x
+
+pub unequal-numbers : (v w : Float) (s t : Bool) (n m l : ℕ) → HasValue v s n l → HasValue w t m l → (n ≡ m → ⊥) → T (ne v w)
+unfolding ne
+unequal-numbers nan w s t n m l p q o = absurd p
+unequal-numbers (inf r) w s t n m l p q o = absurd p
+unequal-numbers (fin r a e) nan s t n m l p q o = absurd q
+unequal-numbers (fin r a e) (inf u) s t n m l p q o = absurd q
+unequal-numbers (fin r a e) (fin u b d) s t n m l p q o = differ (eqb (a * up e * down d) (b * up d * down e)) (Bool·beq r u || eqb (a * up e * down d) 0) (λ h. o (equal (eqb→eq (a * up e * down d) (b * up d * down e) h)))
+  where
+    equal : a * up e * down d ≡ b * up d * down e → n ≡ m
+    equal h =
+        eq-of-mul-eq-mul-right (down e * down d) (mul-pos (down-pos e) (down-pos d)) n m
+        (sym (mul-assoc n (down e) (down d)) ∙ ap (λ (y : ℕ). y * down d) (sym (p .1)) ∙ mul-right-comm (a * up e) l (down d) ∙ ap (λ (y : ℕ). y * l) h
+        ∙ mul-right-comm (b * up d) (down e) l ∙ ap (λ (y : ℕ). y * down e) (q .1) ∙ mul-right-comm m (down d) (down e) ∙ mul-assoc m (down e) (down d))
+
+    differ : (a b : Bool) → (T a → ⊥) → T (not (a && b))
+    differ true b h = absurd (h tt)
+    differ false b h = tt
 
 -- ---- the last bit
 pub last-bit : (f : Format) (v : Float) (s : Bool) (q k : ℕ) → q ≤ 2 ^ prec f → (0 < k → hid f ≤ q) → HasValue v s (q * 2 ^ k) (2 ^ low f) → toBits f v % 2 ≡ q % 2

@@ -3,14 +3,14 @@
 use mathlib.Core.Path.{_≡_, refl, sym, ap, _∙_, subst}
 use mathlib.Core.Logic.{_⊎_, inl, inr}
 use Prim.Native.Nat.{ℕ, zero, suc, _+_, _-_, _*_, _/_, _%_, _^_, _≤_, _<_, compare, Ordering, Ordering·lt, Ordering·eq, Ordering·gt}
-use native.Mathlib.Nat.{le-trans, le-of-eq, le-of-lt, mul-assoc, mul-comm, suc-mul, add-zero, mul-pos, mul-le-mul-right, eq-of-mul-eq-mul-right, div-add-mod', mod-lt, div-div-eq-div-mul, le-div-iff-mul-le}
+use native.Mathlib.Nat.{le-trans, le-of-eq, le-of-lt, lt-of-lt-of-le, lt-of-mul-lt-mul-right, le-of-mul-le-mul-right, mul-assoc, mul-comm, suc-mul, add-zero, mul-pos, mul-le-mul-right, eq-of-mul-eq-mul-right, div-add-mod', mod-lt, div-div-eq-div-mul, le-div-iff-mul-le}
 use native.Mathlib.Numerals.{add-one}
 use native.Mathlib.Omega.{arith}
 use mathlib.Core.Bool.{Bool, true, false, not}
 use lib.Dec.{T, ltb, ltb→lt, nltb→le}
 use lib.Pow.{pow-add, pow-pos, pow-mono, shl-lt}
 use lib.Ieee.{size, nearest}
-use lib.Ieee.Digits.{size-reaches}
+use lib.Ieee.Digits.{size-lt, size-le, size-reaches}
 use lib.Ieee.Fits.{kept-lt}
 use lib.Ieee.Nearest.{closest}
 use lib.Ieee.Order.{drop, kept}
@@ -57,6 +57,43 @@ beside p w j k P S full = go (ltb (S .zeros) k) (ltb→lt (S .zeros) k) (nltb→
     go : (t : Bool) → (T t → S .zeros < k) → (T (not t) → k ≤ S .zeros) → (w ≤ j * 2 ^ k) ⊎ (suc j * 2 ^ k ≤ w)
     go true a b = inl (short (a tt))
     go false a b = long (b tt)
+
+-- such a number with all its digits in front, or with no zeros behind
+pub record Canonical (p w : ℕ) : Type 0 where
+  pub head : ℕ
+  pub zeros : ℕ
+  pub is : w ≡ head * 2 ^ zeros
+  pub few : head < 2 ^ p
+  pub full : 0 < zeros → 2 ^ (p - 1) ≤ head
+
+pub canonical : (p w : ℕ) → 0 < p → Short p w → Canonical p w
+canonical p w P S =
+    let z = S .zeros in
+    let k = size w - p in
+    let h = S .head * 2 ^ (z - k) in
+    let K : k ≤ z = fewer (size w) (size-le w (p + z) (subst (λ (y : ℕ). y < 2 ^ (p + z)) (sym (S .is)) (shl-lt p z (S .few)))) in
+    let e : w ≡ h * 2 ^ k = S .is ∙ ap (λ (y : ℕ). S .head * y) (ap (λ (y : ℕ). 2 ^ y) (back z k K) ∙ pow-add 2 (z - k) k) ∙ sym (mul-assoc (S .head) (2 ^ (z - k)) (2 ^ k)) in
+    record {
+      head = h;
+      zeros = k;
+      is = e;
+      few = lt-of-mul-lt-mul-right (2 ^ k)
+          (subst (λ (y : ℕ). y < 2 ^ p * 2 ^ k) e (lt-of-lt-of-le (size-lt w) (le-trans (pow-mono (cover (size w))) (le-of-eq (pow-add 2 p k)))));
+      full = λ g. le-of-mul-le-mul-right
+          (le-trans (le-of-eq (sym (pow-add 2 (p - 1) k))) (le-trans (size-reaches w (p - 1 + k) (in-use (size w) g)) (le-of-eq e))) (pow-pos k);
+    }
+  where
+    fewer : (s : ℕ) → s ≤ p + S .zeros → s - p ≤ S .zeros
+    fewer s h = omega arith
+
+    back : (z k : ℕ) → k ≤ z → z ≡ z - k + k
+    back z k h = omega arith
+
+    cover : (s : ℕ) → s ≤ p + (s - p)
+    cover s = omega arith
+
+    in-use : (s : ℕ) → 0 < s - p → p - 1 + (s - p) < s
+    in-use s h = omega arith
 
 -- what is kept of a number's leading digits has all of them where some are dropped
 pub full-head : (p n c : ℕ) → 0 < p → 0 < drop p n c → 2 ^ (p - 1) ≤ n / (c * 2 ^ drop p n c)

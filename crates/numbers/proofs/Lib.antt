@@ -9,3 +9,4 @@ pub mod Integers
 pub mod Grid
 pub mod Counts
 pub mod Rounding
+pub mod Only

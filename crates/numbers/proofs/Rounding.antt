@@ -19,18 +19,7 @@ use Rattle.numbers.specs.Nearest.{sign, signed, over, Value, Even, Neare
 use Rattle.numbers.proofs.BitsOf.{units-inf}
 use Rattle.numbers.proofs.Integers.{product, apart, apart-is, apart-scale}
 use Rattle.numbers.proofs.Grid.{Short, dist, full-head, few-head, kept-near, kept-even}
-use Rattle.numbers.proofs.Counts.{Counted, counted, equal-numbers, last-bit}
-
--- ---- a value's sign and size, from its count
-pub sign-of : (x : Float) (t : Bool) (w l : ℕ) → HasValue x t w l → sign x ≡ t
-sign-of nan t w l h = absurd h
-sign-of (inf s) t w l h = absurd h
-sign-of (fin s m e) t w l h = h .0
-
-pub size-of : (x : Float) (t : Bool) (w l : ℕ) → HasValue x t w l → num x * l ≡ w * den x
-size-of nan t w l h = absurd h
-size-of (inf s) t w l h = absurd h
-size-of (fin s m e) t w l h = h .1
+use Rattle.numbers.proofs.Counts.{Counted, counted, finite-of, sign-of, size-of, equal-numbers, last-bit}
 
 -- ---- distances, in counts
 plus : (u : Bool) → unlike u false ≡ u
@@ -189,11 +178,6 @@ module _ (f : Format) (u : Bool) (n c : ℕ) (C : 0 < c) where
           pick : w ≡ 0 → (w ≡ grid f n c) ⊎ (kept (prec f) (n * 2 ^ low f) c % 2 ≡ 0) → ((w ≡ grid f n c) × ((t ≡ u) ⊎ (w ≡ 0))) ⊎ (kept (prec f) (n * 2 ^ low f) c % 2 ≡ 0)
           pick z (inl a) = inl (a, inr z)
           pick z (inr a) = inr a
-
-  finite-of : (x : Float) (t : Bool) (w l : ℕ) → HasValue x t w l → T (finite x)
-  finite-of nan t w l h = h
-  finite-of (inf s) t w l h = h
-  finite-of (fin s m e) t w l h = tt
 
   pub round-nearest : n < limit f * c → Nearest f (Near (signed u n) c) u (round f u n c)
   round-nearest h =
