@@ -30,6 +30,10 @@ product true zero true (suc n) = no-sign (0 * suc n) (zero-mul (suc n))
 product true (suc m) true zero = no-sign (suc m * 0) (mul-zero (suc m))
 product true (suc m) true (suc n) = refl
 
+pub plus : (u : Bool) → unlike u false ≡ u
+plus true = refl
+plus false = refl
+
 -- ---- a sum
 pub plus-same : (s : Bool) (a b : ℕ) → signed s a +ℤ signed s b ≡ signed s (a + b)
 plus-same false a b = refl

@@ -10,3 +10,6 @@ pub mod Grid
 pub mod Counts
 pub mod Rounding
 pub mod Only
+pub mod RootRounding
+pub mod RootNearest
+pub mod Theorems

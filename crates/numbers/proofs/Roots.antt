@@ -36,7 +36,7 @@ root-least n r p x l =
 pub root-most : (n r p : ℕ) → IsRoot n r → n < p * p → r < p
 root-most n r p x l = lt-of-not-le (λ (g : p ≤ r). not-le-of-lt l (le-trans (square-mono g) (x .under)))
 
-twice-square : (s : ℕ) → 2 * s * (2 * s) ≡ s * s * 4
+pub twice-square : (s : ℕ) → 2 * s * (2 * s) ≡ s * s * 4
 twice-square s = mul-mul-mul-comm 2 s 2 s ∙ mul-comm 4 (s * s)
 
 next : (s : ℕ) → suc (suc (2 * s)) ≡ 2 * suc s

@@ -17,15 +17,11 @@ use lib.Ieee.Positive.{num, den, den-pos}
 use lib.Ieee.Scale.{finite, grid, overflow}
 use Rattle.numbers.specs.Nearest.{sign, signed, over, Value, Even, Nearest, distance, Near, limit}
 use Rattle.numbers.proofs.BitsOf.{units-inf}
-use Rattle.numbers.proofs.Integers.{product, apart, apart-is, apart-scale}
+use Rattle.numbers.proofs.Integers.{product, plus, apart, apart-is, apart-scale}
 use Rattle.numbers.proofs.Grid.{Short, dist, full-head, few-head, kept-near, kept-even}
 use Rattle.numbers.proofs.Counts.{Counted, counted, finite-of, sign-of, size-of, equal-numbers, last-bit}
 
 -- ---- distances, in counts
-plus : (u : Bool) → unlike u false ≡ u
-plus true = refl
-plus false = refl
-
 pub distance-is : (u : Bool) (n c : ℕ) (x : Float) (t : Bool) (w l : ℕ) → HasValue x t w l → distance (signed u n) c x * l ≡ apart u (n * l) t (w * c) * den x
 distance-is u n c x t w l h =
     let d = den x in
