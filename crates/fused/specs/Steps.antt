@@ -1,6 +1,6 @@
 -- What the inner functions take and hand on, over a format f: each record's bounds are those that the next step needs. Definitions only. Assumes nothing.
 use mathlib.Core.Path.{_≡_}
-use Prim.Native.Nat.{ℕ, suc, _+_, _-_, _*_, _%_, _^_, _≤_, _<_}
+use Prim.Native.Nat.{ℕ, suc, _+_, _*_, _%_, _^_, _≤_, _<_}
 use mathlib.Core.Bool.{Bool, false, not}
 use lib.Dec.{eqb}
 use lib.Ieee.{Float, nan, inf, fin, Format, prec, emax, low, hid}

@@ -1,19 +1,20 @@
 -- A format's finite values as counts of its smallest value: each is a number of `prec` digits with zeros behind them (`counted`), the count and the sign tell
 -- two of them apart (`same-value`), and the last bit is the count's last significant digit (`last-bit`). Assumes nothing.
-use mathlib.Core.Path.{_≡_, refl, sym, ap, ap₂, _∙_, subst}
+use mathlib.Core.Path.{_≡_, refl, sym, ap, _∙_, subst}
 use mathlib.Core.Logic.{_⊎_, inl, inr}
 use Prim.Native.Nat.{ℕ, zero, suc, _+_, _-_, _*_, _%_, _^_, _≤_, _<_}
-use native.Mathlib.Nat.{le-of-suc-le-suc, lt-of-lt-of-le, lt-of-not-le, lt-irrefl, le-of-eq, mul-assoc, mul-comm, mul-right-comm, mul-one, zero-mul, mul-pos, mul-lt-mul-of-pos-right, lt-of-mul-lt-mul-right, pow-succ', eq-of-mul-eq-mul-right}
+use native.Mathlib.Nat.{le-of-suc-le-suc, lt-of-lt-of-le, lt-of-not-le, lt-irrefl, mul-assoc, mul-comm, mul-right-comm, mul-one, zero-mul, mul-pos}
+use native.Mathlib.Nat.{mul-lt-mul-of-pos-right, lt-of-mul-lt-mul-right, pow-succ', eq-of-mul-eq-mul-right}
 use native.Mathlib.Omega.{arith}
 use mathlib.Core.Bool.{Bool, true, false, not, _&&_, _||_, Bool·beq, cond, true≢false}
 use lib.IntN.{ℤ, pos, negsuc}
 use lib.Dec.{T, leb, ltb, eqb, ltb→lt, leb→le, eqb→eq}
 use lib.Pow.{pow-add, pow-pos, pow-lt}
-use lib.Ieee.{Float, nan, inf, fin, Format, prec, emax, low, up, down, eq, ne, fits, hid, ones, top, ofBits, toBits}
-use lib.Ieee.Fits.{up-pos, down-pos, and-l, and-r, and-i, eq→eqb, two}
+use lib.Ieee.{Float, nan, inf, fin, Format, prec, emax, low, up, down, ne, fits, hid, ones, top, ofBits, toBits}
+use lib.Ieee.Fits.{down-pos, and-l, and-r, eq→eqb, two}
 use lib.Ieee.Bits.{ofBits-toBits}
 use lib.Ieee.Exact.{HasValue}
-use lib.Ieee.Positive.{num, den, den-pos}
+use lib.Ieee.Positive.{num, den}
 use lib.Ieee.Scale.{finite, overflow}
 use Rattle.numbers.specs.Nearest.{Value, sign}
 use Rattle.numbers.proofs.BitsOf.{toBits-val, bits-of}
@@ -33,7 +34,8 @@ place : (m : ℕ) (e : ℤ) (l : ℕ) → down e ≤ 2 ^ l → (z : ℕ) × (m *
 place m (pos k) l h = (k + l, mul-assoc m (2 ^ k) (2 ^ l) ∙ ap (λ (y : ℕ). m * y) (sym (pow-add 2 k l)) ∙ sym (mul-one (m * 2 ^ (k + l))))
 place m (negsuc k) l h = (
   l - suc k,
-  ap (λ (y : ℕ). y * 2 ^ l) (mul-one m) ∙ ap (λ (y : ℕ). m * y) (ap (λ (y : ℕ). 2 ^ y) (back l (suc k) (pow-le-back (suc k) l h)) ∙ pow-add 2 (l - suc k) (suc k))
+  ap (λ (y : ℕ). y * 2 ^ l) (mul-one m) ∙ ap (λ (y : ℕ). m * y) (ap (λ (y : ℕ). 2 ^ y) (back l (suc k) (pow-le-back (suc k) l h))
+      ∙ pow-add 2 (l - suc k) (suc k))
       ∙ sym (mul-assoc m (2 ^ (l - suc k)) (2 ^ suc k)),
 )
   where
@@ -66,7 +68,9 @@ counted f (fin s (suc m) e) h =
       has = (refl, p .1);
       short = record { head = suc m; zeros = p .0; is = refl; few = few };
       under = subst (λ (y : ℕ). w < y) (mul-comm (2 ^ suc (emax f)) (2 ^ low f) ∙ sym (pow-add 2 (low f) (suc (emax f))))
-          (lt-of-mul-lt-mul-right (down e) (subst (λ (y : ℕ). y < 2 ^ suc (emax f) * 2 ^ low f * down e) (p .1) (subst (λ (y : ℕ). suc m * up e * 2 ^ low f < y) (mul-right-comm (2 ^ suc (emax f)) (down e) (2 ^ low f)) (mul-lt-mul-of-pos-right below (pow-pos (low f))))));
+          (lt-of-mul-lt-mul-right (down e) (subst (λ (y : ℕ). y < 2 ^ suc (emax f) * 2 ^ low f * down e) (p .1)
+          (subst (λ (y : ℕ). suc m * up e * 2 ^ low f < y) (mul-right-comm (2 ^ suc (emax f)) (down e) (2 ^ low f))
+          (mul-lt-mul-of-pos-right below (pow-pos (low f))))));
     }
 
 -- ---- what a count says of a value
@@ -105,7 +109,8 @@ equal-numbers (fin r m e) (fin u k d) s t n l L p q o =
     (eq→eqb (eq-of-mul-eq-mul-right l L (m * up e * down d) (k * up d * down e) cross)) (signs o)
   where
     cross : m * up e * down d * l ≡ k * up d * down e * l
-    cross = mul-right-comm (m * up e) (down d) l ∙ ap (λ (y : ℕ). y * down d) (p .1) ∙ mul-right-comm n (down e) (down d) ∙ ap (λ (y : ℕ). y * down e) (sym (q .1)) ∙ mul-right-comm (k * up d) l (down e)
+    cross = mul-right-comm (m * up e) (down d) l ∙ ap (λ (y : ℕ). y * down d) (p .1) ∙ mul-right-comm n (down e) (down d)
+        ∙ ap (λ (y : ℕ). y * down e) (sym (q .1)) ∙ mul-right-comm (k * up d) l (down e)
 
     or-l : (a b : Bool) → T a → T (a || b)
     or-l true b h = tt
@@ -124,7 +129,8 @@ equal-numbers (fin r m e) (fin u k d) s t n l L p q o =
     nothing : n ≡ 0 → m * up e * down d ≡ 0
     nothing z =
         eq-of-mul-eq-mul-right l L (m * up e * down d) 0
-        (mul-right-comm (m * up e) (down d) l ∙ ap (λ (y : ℕ). y * down d) (p .1 ∙ ap (λ (y : ℕ). y * down e) z ∙ zero-mul (down e)) ∙ zero-mul (down d) ∙ sym (zero-mul l))
+        (mul-right-comm (m * up e) (down d) l ∙ ap (λ (y : ℕ). y * down d) (p .1 ∙ ap (λ (y : ℕ). y * down e) z ∙ zero-mul (down e)) ∙ zero-mul (down d)
+        ∙ sym (zero-mul l))
 
     signs : (s ≡ t) ⊎ (n ≡ 0) → T (Bool·beq r u || eqb (m * up e * down d) 0)
     signs (inl h) = or-l (Bool·beq r u) (eqb (m * up e * down d) 0) (alike r u (p .0 ∙ h ∙ sym (q .0)))
@@ -141,7 +147,8 @@ unequal-numbers nan w s t n m l p q o = absurd p
 unequal-numbers (inf r) w s t n m l p q o = absurd p
 unequal-numbers (fin r a e) nan s t n m l p q o = absurd q
 unequal-numbers (fin r a e) (inf u) s t n m l p q o = absurd q
-unequal-numbers (fin r a e) (fin u b d) s t n m l p q o = differ (eqb (a * up e * down d) (b * up d * down e)) (Bool·beq r u || eqb (a * up e * down d) 0) (λ h. o (equal (eqb→eq (a * up e * down d) (b * up d * down e) h)))
+unequal-numbers (fin r a e) (fin u b d) s t n m l p q o = differ (eqb (a * up e * down d) (b * up d * down e)) (Bool·beq r u || eqb (a * up e * down d) 0)
+    (λ h. o (equal (eqb→eq (a * up e * down d) (b * up d * down e) h)))
   where
     equal : a * up e * down d ≡ b * up d * down e → n ≡ m
     equal h =
@@ -154,7 +161,8 @@ unequal-numbers (fin r a e) (fin u b d) s t n m l p q o = differ (eqb (a * up e 
     differ false b h = tt
 
 -- ---- the last bit
-pub last-bit : (f : Format) (v : Float) (s : Bool) (q k : ℕ) → q ≤ 2 ^ prec f → (0 < k → hid f ≤ q) → HasValue v s (q * 2 ^ k) (2 ^ low f) → toBits f v % 2 ≡ q % 2
+pub last-bit : (f : Format) (v : Float) (s : Bool) (q k : ℕ) → q ≤ 2 ^ prec f → (0 < k → hid f ≤ q) → HasValue v s (q * 2 ^ k) (2 ^ low f)
+    → toBits f v % 2 ≡ q % 2
 last-bit f v s q k hi lo h =
     ap (λ (y : ℕ). y % 2) (bits-of f v s q k hi lo h)
     ∙ even (cond s (top f) 0) (k * hid f) q (cond s (2 ^ (prec f - 2) * suc (ones f)) 0) (k * 2 ^ (prec f - 2)) (top-even s)

@@ -3,7 +3,8 @@
 use mathlib.Core.Path.{_≡_, refl, sym, ap, _∙_, subst}
 use mathlib.Core.Logic.{_⊎_, inl, inr}
 use Prim.Native.Nat.{ℕ, zero, suc, _+_, _-_, _*_, _/_, _%_, _^_, _≤_, _<_, compare, Ordering, Ordering·lt, Ordering·eq, Ordering·gt}
-use native.Mathlib.Nat.{le-trans, le-of-eq, le-of-lt, lt-of-lt-of-le, lt-of-mul-lt-mul-right, le-of-mul-le-mul-right, mul-assoc, mul-comm, suc-mul, add-zero, mul-pos, mul-le-mul-right, eq-of-mul-eq-mul-right, div-add-mod', mod-lt, div-div-eq-div-mul, le-div-iff-mul-le}
+use native.Mathlib.Nat.{le-trans, le-of-eq, le-of-lt, lt-of-lt-of-le, lt-of-mul-lt-mul-right, le-of-mul-le-mul-right, mul-assoc, mul-comm, suc-mul, add-zero}
+use native.Mathlib.Nat.{mul-pos, mul-le-mul-right, eq-of-mul-eq-mul-right, div-add-mod', mod-lt, div-div-eq-div-mul, le-div-iff-mul-le}
 use native.Mathlib.Numerals.{add-one}
 use native.Mathlib.Omega.{arith}
 use mathlib.Core.Bool.{Bool, true, false, not}
@@ -12,7 +13,6 @@ use lib.Pow.{pow-add, pow-pos, pow-mono, shl-lt}
 use lib.Ieee.{size, nearest}
 use lib.Ieee.Digits.{size-lt, size-le, size-reaches}
 use lib.Ieee.Fits.{kept-lt}
-use lib.Ieee.Nearest.{closest}
 use lib.Ieee.Order.{drop, kept}
 use Rattle.numbers.proofs.Orders.{Cmp, cmp}
 
@@ -45,7 +45,8 @@ beside p w j k P S full = go (ltb (S .zeros) k) (ltb→lt (S .zeros) k) (nltb→
         x = S .head * 2 ^ (S .zeros - k)
 
         multiple : w ≡ S .head * 2 ^ (S .zeros - k) * 2 ^ k
-        multiple = S .is ∙ ap (λ (y : ℕ). S .head * y) (ap (λ (y : ℕ). 2 ^ y) (back (S .zeros) h) ∙ pow-add 2 (S .zeros - k) k) ∙ sym (mul-assoc (S .head) (2 ^ (S .zeros - k)) (2 ^ k))
+        multiple = S .is ∙ ap (λ (y : ℕ). S .head * y) (ap (λ (y : ℕ). 2 ^ y) (back (S .zeros) h) ∙ pow-add 2 (S .zeros - k) k)
+            ∙ sym (mul-assoc (S .head) (2 ^ (S .zeros - k)) (2 ^ k))
           where
             back : (z : ℕ) → k ≤ z → z ≡ z - k + k
             back z h = omega arith
@@ -72,7 +73,8 @@ canonical p w P S =
     let k = size w - p in
     let h = S .head * 2 ^ (z - k) in
     let K : k ≤ z = fewer (size w) (size-le w (p + z) (subst (λ (y : ℕ). y < 2 ^ (p + z)) (sym (S .is)) (shl-lt p z (S .few)))) in
-    let e : w ≡ h * 2 ^ k = S .is ∙ ap (λ (y : ℕ). S .head * y) (ap (λ (y : ℕ). 2 ^ y) (back z k K) ∙ pow-add 2 (z - k) k) ∙ sym (mul-assoc (S .head) (2 ^ (z - k)) (2 ^ k)) in
+    let e : w ≡ h * 2 ^ k = S .is ∙ ap (λ (y : ℕ). S .head * y) (ap (λ (y : ℕ). 2 ^ y) (back z k K) ∙ pow-add 2 (z - k) k)
+    ∙ sym (mul-assoc (S .head) (2 ^ (z - k)) (2 ^ k)) in
     record {
       head = h;
       zeros = k;
@@ -152,9 +154,11 @@ module _ (p n c : ℕ) (P : 0 < p) (C : 0 < c) where
   found w S =
       let u = c * 2 ^ drop p n c in
       let j = n / u in
-      side n j u (n % u) (w * c) (div-add-mod' n u) (mod-lt n (mul-pos C (pow-pos (drop p n c)))) (out j (beside p w j (drop p n c) P S (full-head p n c P))) (compare (n % u * 2) u) (cmp (n % u * 2) u)
+      side n j u (n % u) (w * c) (div-add-mod' n u) (mod-lt n (mul-pos C (pow-pos (drop p n c)))) (out j (beside p w j (drop p n c) P S (full-head p n c P)))
+      (compare (n % u * 2) u) (cmp (n % u * 2) u)
     where
-      out : (j : ℕ) → (w ≤ j * 2 ^ drop p n c) ⊎ (suc j * 2 ^ drop p n c ≤ w) → (w * c ≤ j * (c * 2 ^ drop p n c)) ⊎ (j * (c * 2 ^ drop p n c) + c * 2 ^ drop p n c ≤ w * c)
+      out : (j : ℕ) → (w ≤ j * 2 ^ drop p n c) ⊎ (suc j * 2 ^ drop p n c ≤ w)
+          → (w * c ≤ j * (c * 2 ^ drop p n c)) ⊎ (j * (c * 2 ^ drop p n c) + c * 2 ^ drop p n c ≤ w * c)
       out j (inl h) = inl (le-trans (mul-le-mul-right c h) (le-of-eq (times j)))
       out j (inr h) = inr (le-trans (le-of-eq (sym (times (suc j) ∙ suc-mul j (c * 2 ^ drop p n c)))) (mul-le-mul-right c h))
 

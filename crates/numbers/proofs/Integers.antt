@@ -1,11 +1,10 @@
 -- Signed numbers by their sign and size: products, sums, how far two lie apart, and the part of a sum that is above zero. Assumes nothing.
 use mathlib.Core.Path.{_≡_, refl, sym, ap, ap₂, _∙_}
-use mathlib.Core.Logic.{_⊎_, inl, inr}
 use Prim.Native.Nat.{ℕ, zero, suc, _+_, _-_, _*_, _≤_, _<_}
 use native.Mathlib.Nat.{zero-mul, mul-zero, zero-add, add-zero, suc-add, add-suc, add-mul, mul-comm, mul-sub}
 use native.Mathlib.Omega.{arith}
 use mathlib.Core.Bool.{Bool, true, false, not, cond, Bool·beq, true≢false}
-use lib.IntN.{ℤ, pos, negsuc, negℤ, natAbs, subℕ, _+ℤ_, _-ℤ_, _*ℤ_, +ℤ-idl, +ℤ-idr, +ℤ-comm}
+use lib.IntN.{ℤ, pos, negsuc, negℤ, natAbs, _+ℤ_, _-ℤ_, _*ℤ_, +ℤ-idl, +ℤ-idr, +ℤ-comm}
 use lib.Dec.{T, ltb, ltb→lt, nltb→le}
 use lib.Ieee.{unlike}
 use Rattle.numbers.specs.Nearest.{signed, atLeastZero}

@@ -2,18 +2,17 @@
 -- (`between`); so one is the next value after the other, and of two neighbours one is odd. Assumes nothing.
 use mathlib.Core.Path.{_≡_, refl, sym, ap, _∙_, subst}
 use mathlib.Core.Logic.{_⊎_, inl, inr}
-use Prim.Native.Nat.{ℕ, suc, _+_, _-_, _*_, _%_, _^_, _≤_, _<_, compare, Ordering, Ordering·lt, Ordering·eq, Ordering·gt}
-use native.Mathlib.Nat.{le-refl, le-of-eq, le-of-lt, le-trans, lt-of-le-of-lt, lt-of-lt-of-le, lt-irrefl, eq-or-lt-of-le, eq-zero-or-pos, zero-lt-suc, zero-mul, suc-mul}
+use Prim.Native.Nat.{ℕ, suc, _+_, _*_, _%_, _^_, _≤_, _<_, compare, Ordering, Ordering·lt, Ordering·eq, Ordering·gt}
+use native.Mathlib.Nat.{le-refl, le-of-eq, le-of-lt, le-trans, lt-of-le-of-lt, lt-of-lt-of-le, lt-irrefl, eq-or-lt-of-le, eq-zero-or-pos, zero-mul, suc-mul}
 use native.Mathlib.Omega.{arith}
 use mathlib.Core.Bool.{Bool, true, false, Bool·beq}
 use lib.IntN.{pos}
 use lib.Dec.{T}
 use lib.Pow.{pow-pos, pow-lt}
-use lib.Ieee.{Float, fin, Format, prec, low, hid, odd, ne, fits, toBits}
+use lib.Ieee.{Float, fin, Format, prec, low, odd, fits}
 use lib.Ieee.Fits.{odd-fits, two, two-le-pos}
 use lib.Ieee.Exact.{HasValue, odd-sign}
 use lib.Ieee.Positive.{num}
-use lib.Ieee.Scale.{finite, overflow}
 use Rattle.numbers.specs.Nearest.{sign, Value, Even, Nearest}
 use Rattle.numbers.proofs.Orders.{Cmp, cmp}
 use Rattle.numbers.proofs.Grid.{beside, Canonical, canonical}
@@ -28,13 +27,15 @@ module _ (f : Format) (AsNear : Float → Float → Type 0) (z : Bool) (R : Bool
     -- r and r' are nearest, and r' is farther from zero on the same side
     module _ (r r' : Float) (N : Nearest f AsNear z r) (N' : Nearest f AsNear z r') (C : Counted f r) (C' : Counted f r') (less : C .count < C' .count) where
       r-even : Even f r
-      r-even = N .even r' (N' .value) (N' .near r (N .value)) (unequal-numbers r' r (sign r') (sign r) (C' .count) (C .count) (2 ^ low f) (C' .has) (C .has) (λ e. no (C' .count) (C .count) e less))
+      r-even = N .even r' (N' .value) (N' .near r (N .value)) (unequal-numbers r' r (sign r') (sign r) (C' .count) (C .count) (2 ^ low f) (C' .has) (C .has)
+          (λ e. no (C' .count) (C .count) e less))
         where
           no : (a b : ℕ) → a ≡ b → b < a → ⊥
           no a b e h = omega arith
 
       r'-even : Even f r'
-      r'-even = N' .even r (N .value) (N .near r' (N' .value)) (unequal-numbers r r' (sign r) (sign r') (C .count) (C' .count) (2 ^ low f) (C .has) (C' .has) (λ e. no (C .count) (C' .count) e less))
+      r'-even = N' .even r (N .value) (N .near r' (N' .value)) (unequal-numbers r r' (sign r) (sign r') (C .count) (C' .count) (2 ^ low f) (C .has) (C' .has)
+          (λ e. no (C .count) (C' .count) e less))
         where
           no : (a b : ℕ) → a ≡ b → a < b → ⊥
           no a b e h = omega arith
@@ -50,13 +51,15 @@ module _ (f : Format) (AsNear : Float → Float → Type 0) (z : Bool) (R : Bool
 
           bit : K .head % 2 ≡ 0
           bit =
-              sym (last-bit f r (sign r) (K .head) (K .zeros) (le-of-lt (K .few)) (K .full) (subst (λ (y : ℕ). HasValue r (sign r) y (2 ^ low f)) (K .is) (C .has))) ∙ r-even
+              sym (last-bit f r (sign r) (K .head) (K .zeros) (le-of-lt (K .few)) (K .full)
+              (subst (λ (y : ℕ). HasValue r (sign r) y (2 ^ low f)) (K .is) (C .has))) ∙ r-even
 
           -- the next value is r' itself
           neighbour : suc (K .head) * 2 ^ K .zeros ≡ C' .count → ⊥
           neighbour e =
               two-even (K .head) bit
-              (sym (last-bit f r' (sign r') (suc (K .head)) (K .zeros) (K .few) (λ h. le-trans (K .full h) (le-of-lt (le-refl (suc (K .head))))) (subst (λ (y : ℕ). HasValue r' (sign r') y (2 ^ low f)) (sym e) (C' .has))) ∙ r'-even)
+              (sym (last-bit f r' (sign r') (suc (K .head)) (K .zeros) (K .few) (λ h. le-trans (K .full h) (le-of-lt (le-refl (suc (K .head)))))
+              (subst (λ (y : ℕ). HasValue r' (sign r') y (2 ^ low f)) (sym e) (C' .has))) ∙ r'-even)
             where
               two-even : (h : ℕ) → h % 2 ≡ 0 → suc h % 2 ≡ 0 → ⊥
               two-even h a b = omega arith
@@ -67,9 +70,11 @@ module _ (f : Format) (AsNear : Float → Float → Type 0) (z : Bool) (R : Bool
               let v = odd (suc (prec f)) (sign r') (suc (K .head)) (K .zeros) (low f) in
               let has = odd-sign (suc (prec f)) (sign r') (suc (K .head)) (K .zeros) (low f) in
               let x = suc (K .head) * 2 ^ K .zeros in
-              let fit : T (fits f v) = odd-fits f (suc (prec f)) (sign r') (suc (K .head)) (K .zeros) (lt-of-le-of-lt (K .few) (pow-lt (le-refl (suc (prec f))))) (K .few) (lt-of-le-of-lt (le-of-lt h) (C' .under)) in
+              let fit : T (fits f v) = odd-fits f (suc (prec f)) (sign r') (suc (K .head)) (K .zeros)
+              (lt-of-le-of-lt (K .few) (pow-lt (le-refl (suc (prec f))))) (K .few) (lt-of-le-of-lt (le-of-lt h) (C' .under)) in
               let val : Value f v = (fit, finite-of v (sign r') x (2 ^ low f) has) in
-              between (sign r) (sign r') (C .count) x (C' .count) side (lt-of-le-of-lt (le-of-eq (K .is)) (step (K .head) (2 ^ K .zeros) (pow-pos (K .zeros)))) h
+              between (sign r) (sign r') (C .count) x (C' .count) side
+              (lt-of-le-of-lt (le-of-eq (K .is)) (step (K .head) (2 ^ K .zeros) (pow-pos (K .zeros)))) h
               (to r v (sign r) (sign r') (C .count) x (C .has) has (N .near v val))
               (to r' v (sign r') (sign r') (C' .count) x (C' .has) has (N' .near v val))
             where
@@ -101,7 +106,8 @@ module _ (f : Format) (AsNear : Float → Float → Type 0) (z : Bool) (R : Bool
     signs false false = inl refl
 
     -- one of two nearest values that differ in sign is zero
-    not-both : (r r' : Float) → Nearest f AsNear z r → Nearest f AsNear z r' → (C : Counted f r) (C' : Counted f r') → Bool·beq (sign r) (sign r') ≡ false → 0 < C .count → 0 < C' .count → ⊥
+    not-both : (r r' : Float) → Nearest f AsNear z r → Nearest f AsNear z r' → (C : Counted f r) (C' : Counted f r') → Bool·beq (sign r) (sign r') ≡ false
+        → 0 < C .count → 0 < C' .count → ⊥
     not-both r r' N N' C C' e h h' =
         across (sign r) (sign r') (C .count) (C' .count) e h h'
         (to r (fin false 0 (pos 0)) (sign r) false (C .count) 0 (C .has) zero-has (N .near (fin false 0 (pos 0)) zero-value))
@@ -127,7 +133,8 @@ module _ (f : Format) (AsNear : Float → Float → Type 0) (z : Bool) (R : Bool
         go : (C : Counted f r) (C' : Counted f r') (o : Ordering) → Cmp o (C .count) (C' .count) → r ≡ r'
         go C C' Ordering·lt h = absurd (apart-clash r r' N N' C C' h)
         go C C' Ordering·gt h = absurd (apart-clash r' r N' N C' C h)
-        go C C' Ordering·eq h = same-value f r r' (sign r) (C .count) (N .value) (N' .value) (C .has) (subst (λ (s : Bool). HasValue r' s (C .count) (2 ^ low f)) (sym alike) (subst (λ (n : ℕ). HasValue r' (sign r') n (2 ^ low f)) (sym h) (C' .has)))
+        go C C' Ordering·eq h = same-value f r r' (sign r) (C .count) (N .value) (N' .value) (C .has)
+            (subst (λ (s : Bool). HasValue r' s (C .count) (2 ^ low f)) (sym alike) (subst (λ (n : ℕ). HasValue r' (sign r') n (2 ^ low f)) (sym h) (C' .has)))
           where
             alike : sign r ≡ sign r'
             alike = pick (signs (sign r) (sign r')) (eq-zero-or-pos (C .count))

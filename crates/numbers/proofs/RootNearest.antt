@@ -1,22 +1,24 @@
 -- `NearRoot`, in counts of the smallest value, and the root of a format's value as the nearest one. Assumes nothing.
 use mathlib.Core.Path.{_≡_, refl, sym, ap, ap₂, _∙_, subst}
 use mathlib.Core.Logic.{_⊎_, inl, inr}
-use Prim.Native.Nat.{ℕ, zero, suc, _+_, _-_, _*_, _/_, _%_, _^_, _≤_, _<_, zero-le, compare}
-use native.Mathlib.Nat.{le-refl, le-trans, le-of-eq, le-of-lt, lt-of-lt-of-le, lt-of-le-of-lt, lt-of-not-le, not-le-of-lt, eq-zero-or-pos, mul-assoc, mul-comm, mul-left-comm, mul-right-comm, mul-mul-mul-comm, mul-pos, mul-le-mul, mul-le-mul-right, mul-lt-mul-of-pos-right, lt-of-mul-lt-mul-right, le-of-mul-le-mul-right, add-mul, zero-mul, add-zero, pow-succ', zero-lt-suc}
+use Prim.Native.Nat.{ℕ, suc, _+_, _-_, _*_, _%_, _^_, _≤_, _<_, zero-le, compare}
+use native.Mathlib.Nat.{le-refl, le-trans, le-of-eq, lt-of-lt-of-le, lt-of-le-of-lt, lt-of-not-le, not-le-of-lt, eq-zero-or-pos, mul-assoc, mul-comm}
+use native.Mathlib.Nat.{mul-left-comm, mul-right-comm, mul-pos, mul-le-mul, mul-le-mul-right, mul-lt-mul-of-pos-right, lt-of-mul-lt-mul-right}
+use native.Mathlib.Nat.{le-of-mul-le-mul-right, add-mul, zero-mul, add-zero, zero-lt-suc}
 use native.Mathlib.Omega.{arith}
-use mathlib.Core.Bool.{Bool, true, false, not, true≢false}
+use mathlib.Core.Bool.{Bool, true, false, not}
 use borrow.Author.Tests.{lt-ltb, le-ltb}
 use lib.IntN.{ℤ, _+ℤ_}
 use lib.Dec.{T, ltb, ltb→lt, lt→ltb, nltb→le}
 use lib.Pow.{pow-add, pow-pos, pow-mono, pow-lt}
-use lib.Ieee.{Float, nan, inf, fin, Format, prec, emax, low, up, down, unlike, below, units, lt, ne, fits, hid, toBits}
+use lib.Ieee.{Float, nan, inf, fin, Format, prec, emax, low, up, down, below, units, lt, ne, fits, hid, toBits}
 use lib.Ieee.Fits.{odd-fits, nearest-le, two, two-le-pos, reach}
 use lib.Ieee.Exact.{HasValue, units-val}
 use lib.Ieee.Nearest.{nearest-ge}
 use lib.Ieee.Positive.{num, den, den-pos, positive, own-value, value-pos}
 use lib.Ieee.Scale.{overflow}
 use Rattle.numbers.specs.Fused.{root}
-use Rattle.numbers.specs.Nearest.{sign, signed, over, atLeastZero, Value, Even, Nearest, twice, NearRoot}
+use Rattle.numbers.specs.Nearest.{sign, signed, atLeastZero, Value, Even, Nearest, twice, NearRoot}
 use Rattle.numbers.proofs.BitsOf.{units-odd}
 use Rattle.numbers.proofs.Integers.{product, plus, middle, middle-is, middle-scale}
 use Rattle.numbers.proofs.Roots.{rootOf, root-at}
@@ -51,14 +53,16 @@ module _ (n c l : ℕ) (L : 0 < l) (r v : Float) (s t : Bool) (w x : ℕ) (h : H
   left-count = mul-right-comm (num r) (den v) l ∙ ap (λ (y : ℕ). y * den v) (size-of r s w l h) ∙ mul-assoc w (den r) (den v)
 
   right-count : num v * den r * l ≡ x * (den r * den v)
-  right-count = mul-right-comm (num v) (den r) l ∙ ap (λ (y : ℕ). y * den r) (size-of v t x l k) ∙ mul-assoc x (den v) (den r) ∙ ap (λ (y : ℕ). x * y) (mul-comm (den v) (den r))
+  right-count = mul-right-comm (num v) (den r) l ∙ ap (λ (y : ℕ). y * den r) (size-of v t x l k) ∙ mul-assoc x (den v) (den r)
+      ∙ ap (λ (y : ℕ). x * y) (mul-comm (den v) (den r))
 
   twice-is : twice r v * l ≡ middle s w t x * (den r * den v)
   twice-is =
       let u = sign r in
       let z = sign v in
       ap (λ (y : ℕ). y * l)
-      (ap₂ (λ (a b : ℤ). atLeastZero (a +ℤ b)) (product u (num r) false (den v) ∙ ap (λ (b : Bool). signed b (num r * den v)) (plus u)) (product z (num v) false (den r) ∙ ap (λ (b : Bool). signed b (num v * den r)) (plus z))
+      (ap₂ (λ (a b : ℤ). atLeastZero (a +ℤ b)) (product u (num r) false (den v) ∙ ap (λ (b : Bool). signed b (num r * den v)) (plus u))
+      (product z (num v) false (den r) ∙ ap (λ (b : Bool). signed b (num v * den r)) (plus z))
       ∙ middle-is u (num r * den v) z (num v * den r))
       ∙ middle-scale u (num r * den v) z (num v * den r) l
       ∙ ap₂ (λ (a b : ℕ). middle u a z b) left-count right-count
@@ -91,10 +95,12 @@ module _ (n c l : ℕ) (L : 0 < l) (r v : Float) (s t : Bool) (w x : ℕ) (h : H
   ge-in e = le-of-mul-le-mul-right (le-trans (le-of-eq (sym squares)) (le-trans (mul-le-mul-right (l * l) e) (le-of-eq exact-side))) DD
 
   le-out : n * (l * l) * 4 ≤ middle s w t x * middle s w t x * c → 4 * n * (den r * den v * (den r * den v)) ≤ twice r v * twice r v * c
-  le-out e = le-of-mul-le-mul-right (le-trans (le-of-eq exact-side) (le-trans (mul-le-mul-right (den r * den v * (den r * den v)) e) (le-of-eq (sym squares)))) LL
+  le-out e = le-of-mul-le-mul-right (le-trans (le-of-eq exact-side) (le-trans (mul-le-mul-right (den r * den v * (den r * den v)) e)
+      (le-of-eq (sym squares)))) LL
 
   ge-out : middle s w t x * middle s w t x * c ≤ n * (l * l) * 4 → twice r v * twice r v * c ≤ 4 * n * (den r * den v * (den r * den v))
-  ge-out e = le-of-mul-le-mul-right (le-trans (le-of-eq squares) (le-trans (mul-le-mul-right (den r * den v * (den r * den v)) e) (le-of-eq (sym exact-side)))) LL
+  ge-out e = le-of-mul-le-mul-right (le-trans (le-of-eq squares) (le-trans (mul-le-mul-right (den r * den v * (den r * den v)) e)
+      (le-of-eq (sym exact-side)))) LL
 
 lt-is : (r v : Float) (s t : Bool) (w x l : ℕ) → 0 < l → HasValue r s w l → HasValue v t x l → lt r v ≡ below s w t x
 unfolding lt
@@ -110,10 +116,18 @@ lt-is (fin u m e) (fin z o d) s t w x l L h k =
 
 module _ (n c l : ℕ) (L : 0 < l) (r v : Float) (s t : Bool) (w x : ℕ) (h : HasValue r s w l) (k : HasValue v t x l) where
   pub root-in : NearRoot n c r v → InCounts (n * (l * l)) c s w t x
-  root-in e = (λ b. le-in n c l L r v s t w x h k (e .0 (subst T (sym (lt-is r v s t w x l L h k)) b)), λ b. ge-in n c l L r v s t w x h k (e .1 (subst T (sym (lt-is v r t s x w l L k h)) b)))
+  root-in e = (
+    λ b. le-in n c l L r v s t w x h k (e .0 (subst T (sym (lt-is r v s t w x l L h k)) b)),
+    λ b. ge-in n c l L r v s t w x h k
+        (e .1 (subst T (sym (lt-is v r t s x w l L k h)) b)),
+  )
 
   pub root-out : InCounts (n * (l * l)) c s w t x → NearRoot n c r v
-  root-out e = (λ b. le-out n c l L r v s t w x h k (e .0 (subst T (lt-is r v s t w x l L h k) b)), λ b. ge-out n c l L r v s t w x h k (e .1 (subst T (lt-is v r t s x w l L k h) b)))
+  root-out e = (
+    λ b. le-out n c l L r v s t w x h k (e .0 (subst T (lt-is r v s t w x l L h k) b)),
+    λ b. ge-out n c l L r v s t w x h k
+        (e .1 (subst T (lt-is v r t s x w l L k h) b)),
+  )
 
 -- ---- the root of a value above zero
 module _ (f : Format) (n c : ℕ) (C : 0 < c) (some : 0 < n) (range : n < 2 ^ suc (emax f) * c) where
@@ -155,9 +169,11 @@ module _ (f : Format) (n c : ℕ) (C : 0 < c) (some : 0 < n) (range : n < 2 ^ su
 
       bound : n * 4 ^ low f * 4 < 2 ^ (suc (emax f) + (low f + low f) + 2) * c
       bound =
-          lt-of-lt-of-le (mul-lt-mul-of-pos-right (mul-lt-mul-of-pos-right range (subst (λ (y : ℕ). 0 < y) (sym (four-square (low f))) (mul-pos (pow-pos (low f)) (pow-pos (low f))))) (zero-lt-suc 3))
+          lt-of-lt-of-le (mul-lt-mul-of-pos-right (mul-lt-mul-of-pos-right range
+          (subst (λ (y : ℕ). 0 < y) (sym (four-square (low f))) (mul-pos (pow-pos (low f)) (pow-pos (low f))))) (zero-lt-suc 3))
           (le-of-eq (group (2 ^ suc (emax f)) c (4 ^ low f) 4 ∙ ap (λ (y : ℕ). y * c)
-          (ap (λ (y : ℕ). y * 4) (ap (λ (y : ℕ). 2 ^ suc (emax f) * y) (four-square (low f) ∙ sym (pow-add 2 (low f) (low f))) ∙ sym (pow-add 2 (suc (emax f)) (low f + low f)))
+          (ap (λ (y : ℕ). y * 4) (ap (λ (y : ℕ). 2 ^ suc (emax f) * y) (four-square (low f) ∙ sym (pow-add 2 (low f) (low f)))
+          ∙ sym (pow-add 2 (suc (emax f)) (low f + low f)))
           ∙ sym (pow-add 2 (suc (emax f) + (low f + low f)) 2))))
         where
           group : (a c l x : ℕ) → a * c * l * x ≡ a * l * x * c
@@ -216,7 +232,8 @@ module _ (f : Format) (n c : ℕ) (C : 0 < c) (some : 0 < n) (range : n < 2 ^ su
           nothing x W e = omega arith
 
           less : (W ≡ 0) ⊎ (0 < W) → (W - x) * (W - x) * c < n * 4 ^ low f * 4
-          less (inl z) = lt-of-le-of-lt (le-of-eq (ap (λ (y : ℕ). y * (W - x) * c) (nothing x W z) ∙ ap (λ (y : ℕ). y * c) (zero-mul (W - x)) ∙ zero-mul c)) N-pos
+          less (inl z) = lt-of-le-of-lt (le-of-eq (ap (λ (y : ℕ). y * (W - x) * c) (nothing x W z) ∙ ap (λ (y : ℕ). y * c) (zero-mul (W - x))
+              ∙ zero-mul c)) N-pos
           less (inr z) = lt-of-lt-of-le (square-lt c (W - x) W C (smaller x W e z)) within
 
   -- ---- the answer
@@ -232,13 +249,15 @@ module _ (f : Format) (n c : ℕ) (C : 0 < c) (some : 0 < n) (range : n < 2 ^ su
   unfolding Q
   Q-most =
       let q = leading (prec f) (n * 4 ^ low f) c in
-      le-trans (nearest-le q (compare (n * 4 ^ low f * 4) ((2 * q + 1) * (2 * q + 1) * (c * 4 ^ dropped (prec f) (n * 4 ^ low f) c)))) (root-few (prec f) (n * 4 ^ low f) c p-pos C)
+      le-trans (nearest-le q (compare (n * 4 ^ low f * 4) ((2 * q + 1) * (2 * q + 1) * (c * 4 ^ dropped (prec f) (n * 4 ^ low f) c))))
+      (root-few (prec f) (n * 4 ^ low f) c p-pos C)
 
   Q-full : 0 < k → hid f ≤ Q
   unfolding Q k
   Q-full h =
       let q = leading (prec f) (n * 4 ^ low f) c in
-      le-trans (root-full (prec f) (n * 4 ^ low f) c p-pos C h) (nearest-ge q (compare (n * 4 ^ low f * 4) ((2 * q + 1) * (2 * q + 1) * (c * 4 ^ dropped (prec f) (n * 4 ^ low f) c))))
+      le-trans (root-full (prec f) (n * 4 ^ low f) c p-pos C h) (nearest-ge q
+      (compare (n * 4 ^ low f * 4) ((2 * q + 1) * (2 * q + 1) * (c * 4 ^ dropped (prec f) (n * 4 ^ low f) c))))
 
   fit : T (fits f (rootOf f (n * 4 ^ low f) c))
   unfolding W Q k
@@ -262,11 +281,13 @@ module _ (f : Format) (n c : ℕ) (C : 0 < c) (some : 0 < n) (range : n < 2 ^ su
         even = λ v O h d. let o = counted f v O in
             pick v o d
             (even-count (sign v) (o .count) (o .short)
-            (subst (λ (y : ℕ). InCounts (n * y) c (sign v) (o .count) false W) (sym (four-square (low f))) (root-in n c l (pow-pos (low f)) v r (sign v) false (o .count) W (o .has) has h)));
+            (subst (λ (y : ℕ). InCounts (n * y) c (sign v) (o .count) false W) (sym (four-square (low f)))
+            (root-in n c l (pow-pos (low f)) v r (sign v) false (o .count) W (o .has) has h)));
         signed-zero = λ z. sign-of r false W l has;
       }
     where
-      pick : (v : Float) (o : Counted f v) → T (ne v (rootOf f (n * 4 ^ low f) c)) → ((o .count ≡ W) × ((sign v ≡ false) ⊎ (o .count ≡ 0))) ⊎ (Q % 2 ≡ 0) → Even f (rootOf f (n * 4 ^ low f) c)
+      pick : (v : Float) (o : Counted f v) → T (ne v (rootOf f (n * 4 ^ low f) c)) → ((o .count ≡ W) × ((sign v ≡ false) ⊎ (o .count ≡ 0))) ⊎ (Q % 2 ≡ 0)
+          → Even f (rootOf f (n * 4 ^ low f) c)
       pick v o d (inl (e, i)) =
           absurd (equal-numbers v (rootOf f (n * 4 ^ low f) c) (sign v) false (o .count) (2 ^ low f) (pow-pos (low f)) (o .has)
           (subst (λ (y : ℕ). HasValue (rootOf f (n * 4 ^ low f) c) false y (2 ^ low f)) (sym e) has) i d)

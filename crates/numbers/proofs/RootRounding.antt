@@ -1,37 +1,28 @@
 -- The root of a format gives the value nearest to the exact root, a tie the even one: the middle between two values is compared by its square. Assumes nothing.
-use mathlib.Core.Path.{_≡_, refl, sym, ap, ap₂, _∙_, subst}
+use mathlib.Core.Path.{_≡_, refl, sym, ap, _∙_, subst}
 use mathlib.Core.Logic.{_⊎_, inl, inr}
-use Prim.Native.Nat.{ℕ, zero, suc, _+_, _-_, _*_, _/_, _%_, _^_, _≤_, _<_, zero-le, compare, Ordering, Ordering·lt, Ordering·eq, Ordering·gt}
-use native.Mathlib.Nat.{le-refl, le-trans, le-of-eq, le-of-lt, lt-of-lt-of-le, lt-of-le-of-lt, lt-of-not-le, not-le-of-lt, lt-irrefl, eq-or-lt-of-le, eq-zero-or-pos, mul-assoc, mul-comm, mul-left-comm, mul-right-comm, mul-mul-mul-comm, mul-pos, mul-le-mul, mul-le-mul-right, mul-lt-mul-of-pos-right, lt-of-mul-lt-mul-right, le-of-mul-le-mul-right, suc-mul, add-mul, one-mul, zero-mul, add-zero, le-div-iff-mul-le, div-lt-iff-lt-mul, div-div-eq-div-mul, zero-lt-suc}
+use Prim.Native.Nat.{ℕ, zero, suc, _+_, _-_, _*_, _/_, _%_, _^_, _≤_, _<_, compare, Ordering, Ordering·lt, Ordering·eq, Ordering·gt}
+use native.Mathlib.Nat.{le-trans, le-of-eq, le-of-lt, lt-of-lt-of-le, lt-of-le-of-lt, lt-of-not-le, lt-irrefl, eq-or-lt-of-le, mul-assoc, mul-comm}
+use native.Mathlib.Nat.{mul-left-comm, mul-right-comm, mul-pos, mul-le-mul, mul-le-mul-right, mul-lt-mul-of-pos-right, suc-mul, add-mul, one-mul, add-zero}
+use native.Mathlib.Nat.{le-div-iff-mul-le, div-lt-iff-lt-mul, div-div-eq-div-mul, zero-lt-suc}
 use native.Mathlib.Numerals.{add-one}
 use native.Mathlib.Omega.{arith}
-use mathlib.Core.Bool.{Bool, true, false, not}
-use lib.IntN.{ℤ, _+ℤ_}
-use lib.Dec.{T, ltb, ltb→lt, lt→ltb, nltb→le}
-use borrow.Author.Tests.{lt-ltb, le-ltb}
 use lib.Pow.{pow-add, pow-pos, pow-mono}
-use lib.Ieee.{Float, nan, inf, fin, Format, prec, emax, low, up, down, unlike, below, size, nearest, units, lt, ne, fits, hid}
+use lib.Ieee.{size, nearest}
 use lib.Ieee.Digits.{size-lt, size-reaches}
-use lib.Ieee.Fits.{odd-fits, nearest-le, two, two-le-pos, reach}
-use lib.Ieee.Exact.{HasValue, units-val}
-use lib.Ieee.Nearest.{nearest-ge}
-use lib.Ieee.Positive.{num, den, den-pos, positive, own-value, value-pos}
-use lib.Ieee.Scale.{overflow}
-use Rattle.numbers.specs.Fused.{wholeRoot, root}
-use Rattle.numbers.specs.Nearest.{sign, signed, over, atLeastZero, Value, Even, Nearest, twice, NearRoot}
+use Rattle.numbers.specs.Fused.{wholeRoot}
+use Rattle.numbers.specs.Nearest.{over}
 use Rattle.numbers.proofs.Orders.{Cmp, cmp}
-use Rattle.numbers.proofs.BitsOf.{units-odd}
-use Rattle.numbers.proofs.Integers.{product, middle, middle-is, middle-scale}
-use Rattle.numbers.proofs.Roots.{IsRoot, root-least, root-most, twice-square, wholeRoot-root, four-pow, four-pos, rootOf, root-at}
+use Rattle.numbers.proofs.Roots.{IsRoot, root-least, root-most, twice-square, wholeRoot-root, four-pow, four-pos}
 use Rattle.numbers.proofs.Grid.{Short, beside}
-use Rattle.numbers.proofs.Counts.{Counted, counted, finite-of, sign-of, size-of, equal-numbers, last-bit}
 
 -- ---- squares
 pub square-le : (c y z : ℕ) → y ≤ z → y * y * c ≤ z * z * c
 square-le c y z h = mul-le-mul-right c (mul-le-mul h h)
 
 pub square-lt : (c y z : ℕ) → 0 < c → y < z → y * y * c < z * z * c
-square-lt c y z C h = mul-lt-mul-of-pos-right (lt-of-not-le (λ (g : z * z ≤ y * y). lt-irrefl (y * y) (lt-of-lt-of-le (grow y) (le-trans (mul-le-mul h h) g)))) C
+square-lt c y z C h = mul-lt-mul-of-pos-right (lt-of-not-le (λ (g : z * z ≤ y * y). lt-irrefl (y * y)
+    (lt-of-lt-of-le (grow y) (le-trans (mul-le-mul h h) g)))) C
   where
     grow : (y : ℕ) → y * y < suc y * suc y
     grow y = lt-of-lt-of-le (more (y * y) y) (le-of-eq (sym (suc-mul y (suc y) ∙ ap (λ (w : ℕ). w + suc y) (mul-comm y (suc y) ∙ suc-mul y y))))
@@ -52,7 +43,8 @@ pub record Side (N c x W Q : ℕ) : Type 0 where
   pub below' : x < W → (W + x) * (W + x) * c ≤ N
   pub same-or-even : (W < x → (W + x) * (W + x) * c ≤ N) → (x < W → N ≤ (W + x) * (W + x) * c) → (x ≡ W) ⊎ (Q % 2 ≡ 0)
 
-module _ (N c l g x : ℕ) (C : 0 < c) (G : 0 < g) (lo : (l + l) * (l + l) * c ≤ N) (hi : N < (l + g + (l + g)) * (l + g + (l + g)) * c) (out : (x ≤ l) ⊎ (l + g ≤ x)) where
+module _ (N c l g x : ℕ) (C : 0 < c) (G : 0 < g) (lo : (l + l) * (l + l) * c ≤ N) (hi : N < (l + g + (l + g)) * (l + g + (l + g)) * c)
+    (out : (x ≤ l) ⊎ (l + g ≤ x)) where
   no : (a b : ℕ) → a < b → b ≤ a → ⊥
   no a b h k = omega arith
 
@@ -132,7 +124,8 @@ module _ (p n c : ℕ) (P : 0 < p) (C : 0 < c) where
   few-digits =
       let k = dropped p n c in
       subst (λ (y : ℕ). y < 4 ^ p) (div-div-eq-div-mul n c (4 ^ k))
-      (div-lt-iff-lt-mul (four-pos k) .1 (lt-of-lt-of-le (size-lt (n / c)) (le-trans (pow-mono (room (size (n / c)))) (le-of-eq (sym (four-pow (p + k)) ∙ pow-add 4 p k)))))
+      (div-lt-iff-lt-mul (four-pos k) .1 (lt-of-lt-of-le (size-lt (n / c))
+      (le-trans (pow-mono (room (size (n / c)))) (le-of-eq (sym (four-pow (p + k)) ∙ pow-add 4 p k)))))
     where
       room : (z : ℕ) → z ≤ 2 * (p + ((z + 1) / 2 - p))
       room z = omega arith
@@ -178,8 +171,10 @@ module _ (p n c : ℕ) (P : 0 < p) (C : 0 < c) where
       (mul-le-mul-right 4 (le-div-iff-mul-le U .0 (whole .under))) in
       let hi : n * 4 < (l + g + (l + g)) * (l + g + (l + g)) * c =
       lt-of-lt-of-le (mul-lt-mul-of-pos-right (div-lt-iff-lt-mul U .0 (whole .over)) (zero-lt-suc 3))
-      (le-of-eq (sym (ap (λ (y : ℕ). y * y * c) twice-high ∙ times (2 * suc q) g ∙ ap (λ (y : ℕ). 2 * suc q * (2 * suc q) * y) unit ∙ four-times (suc q) (c * 4 ^ k)))) in
-      let mid : (2 * q + 1) * (2 * q + 1) * (c * 4 ^ k) ≡ (l + l + g) * (l + l + g) * c = sym (ap (λ (y : ℕ). y * y * c) twice-mid ∙ times (2 * q + 1) g ∙ ap (λ (y : ℕ). (2 * q + 1) * (2 * q + 1) * y) unit) in
+      (le-of-eq (sym (ap (λ (y : ℕ). y * y * c) twice-high ∙ times (2 * suc q) g ∙ ap (λ (y : ℕ). 2 * suc q * (2 * suc q) * y) unit
+      ∙ four-times (suc q) (c * 4 ^ k)))) in
+      let mid : (2 * q + 1) * (2 * q + 1) * (c * 4 ^ k) ≡ (l + l + g) * (l + l + g) * c = sym
+      (ap (λ (y : ℕ). y * y * c) twice-mid ∙ times (2 * q + 1) g ∙ ap (λ (y : ℕ). (2 * q + 1) * (2 * q + 1) * y) unit) in
       let o = compare (n * 4) ((2 * q + 1) * (2 * q + 1) * (c * 4 ^ k)) in
       side (n * 4) c l g x C (pow-pos k) lo hi (out q g (beside p x q k P S root-full)) q refl o
       (subst (λ (y : ℕ). Cmp o (n * 4) y) mid (cmp (n * 4) ((2 * q + 1) * (2 * q + 1) * (c * 4 ^ k))))

@@ -2,20 +2,21 @@
 use mathlib.Core.Path.{_≡_, refl, sym, ap, ap₂, _∙_, subst}
 use mathlib.Core.Logic.{_⊎_, inl, inr}
 use Prim.Native.Nat.{ℕ, suc, _+_, _-_, _*_, _/_, _%_, _^_, _≤_, _<_, compare}
-use native.Mathlib.Nat.{le-refl, le-trans, le-of-eq, le-of-lt, le-add-right, le-of-suc-le-suc, lt-of-lt-of-le, lt-of-not-le, not-le-of-lt, mul-assoc, mul-comm, mul-one, mul-right-comm, zero-mul, mul-pos, mul-le-mul-right, mul-lt-mul-of-pos-right, le-of-mul-le-mul-right, mul-sub, add-mul, pow-succ', eq-zero-or-pos, zero-lt-suc}
+use native.Mathlib.Nat.{le-trans, le-of-eq, le-add-right, le-of-suc-le-suc, lt-of-lt-of-le, lt-of-not-le, mul-assoc, mul-comm, mul-one, mul-right-comm}
+use native.Mathlib.Nat.{zero-mul, mul-pos, mul-le-mul-right, mul-lt-mul-of-pos-right, le-of-mul-le-mul-right, add-mul, eq-zero-or-pos, zero-lt-suc}
 use native.Mathlib.Omega.{arith}
-use mathlib.Core.Bool.{Bool, true, false, not, Bool·beq, cond, true≢false}
-use lib.IntN.{ℤ, pos, negsuc, negℤ, natAbs, _-ℤ_, _*ℤ_}
-use lib.Dec.{T, ltb, ltb→lt, nltb→le}
-use lib.Pow.{pow-add, pow-pos, pow-lt}
-use lib.Ieee.{Float, nan, inf, fin, Format, binary32, binary64, prec, emax, low, up, down, unlike, size, units, round, le, ne, fits, hid}
-use lib.Ieee.Fits.{round-is, round-fits, nearest-le, two, two-le-pos, reach, down-pos}
+use mathlib.Core.Bool.{Bool, true, false, Bool·beq, cond, true≢false}
+use lib.IntN.{ℤ, natAbs, _-ℤ_}
+use lib.Dec.{T}
+use lib.Pow.{pow-pos}
+use lib.Ieee.{Float, nan, inf, fin, Format, binary32, binary64, prec, emax, low, round, le, ne, hid}
+use lib.Ieee.Fits.{round-is, round-fits, nearest-le, two, two-le-pos}
 use lib.Ieee.Exact.{HasValue, units-val}
-use lib.Ieee.Nearest.{closest, nearest-ge}
+use lib.Ieee.Nearest.{nearest-ge}
 use lib.Ieee.Order.{drop, kept, round-mono}
 use lib.Ieee.Positive.{num, den, den-pos}
-use lib.Ieee.Scale.{finite, grid, overflow}
-use Rattle.numbers.specs.Nearest.{sign, signed, over, Value, Even, Nearest, distance, Near, limit}
+use lib.Ieee.Scale.{grid, overflow}
+use Rattle.numbers.specs.Nearest.{sign, signed, Even, Nearest, distance, Near, limit}
 use Rattle.numbers.proofs.BitsOf.{units-inf}
 use Rattle.numbers.proofs.Integers.{product, plus, apart, apart-is, apart-scale}
 use Rattle.numbers.proofs.Grid.{Short, dist, full-head, few-head, kept-near, kept-even}
@@ -27,7 +28,8 @@ distance-is u n c x t w l h =
     let d = den x in
     let s = sign x in
     ap (λ (y : ℕ). y * l)
-    (ap₂ (λ (a b : ℤ). natAbs (a -ℤ b)) (product u n false d ∙ ap (λ (z : Bool). signed z (n * d)) (plus u)) (product s (num x) false c ∙ ap (λ (z : Bool). signed z (num x * c)) (plus s))
+    (ap₂ (λ (a b : ℤ). natAbs (a -ℤ b)) (product u n false d ∙ ap (λ (z : Bool). signed z (n * d)) (plus u))
+    (product s (num x) false c ∙ ap (λ (z : Bool). signed z (num x * c)) (plus s))
     ∙ apart-is u (n * d) s (num x * c))
     ∙ apart-scale u (n * d) s (num x * c) l
     ∙ ap₂ (λ (a b : ℕ). apart u a s b) (mul-right-comm n d l) (mul-right-comm (num x) c l ∙ ap (λ (y : ℕ). y * c) (size-of x t w l h) ∙ mul-right-comm w d c)
@@ -36,7 +38,8 @@ distance-is u n c x t w l h =
 
 module _ (u : Bool) (n c l : ℕ) (L : 0 < l) (r v : Float) (s t : Bool) (w x : ℕ) (h : HasValue r s w l) (k : HasValue v t x l) where
   left : distance (signed u n) c r * den v * l ≡ apart u (n * l) s (w * c) * (den r * den v)
-  left = mul-right-comm (distance (signed u n) c r) (den v) l ∙ ap (λ (y : ℕ). y * den v) (distance-is u n c r s w l h) ∙ mul-assoc (apart u (n * l) s (w * c)) (den r) (den v)
+  left = mul-right-comm (distance (signed u n) c r) (den v) l ∙ ap (λ (y : ℕ). y * den v) (distance-is u n c r s w l h)
+      ∙ mul-assoc (apart u (n * l) s (w * c)) (den r) (den v)
 
   right : distance (signed u n) c v * den r * l ≡ apart u (n * l) t (x * c) * (den r * den v)
   right =
@@ -83,24 +86,30 @@ module _ (f : Format) (u : Bool) (n c : ℕ) (C : 0 < c) where
       le-trans (full-head (prec f) (n * 2 ^ low f) c p-pos h) (nearest-ge (n * 2 ^ low f / v) (compare (n * 2 ^ low f % v * 2) v))
 
   pub round-has : grid f n c < overflow f → HasValue (round f u n c) u (grid f n c) (2 ^ low f)
-  round-has h = subst (λ (x : Float). HasValue x u (grid f n c) (2 ^ low f)) (sym (round-is f u n c)) (units-val f u (kept (prec f) (n * 2 ^ low f) c) (drop (prec f) (n * 2 ^ low f) c) h)
+  round-has h = subst (λ (x : Float). HasValue x u (grid f n c) (2 ^ low f)) (sym (round-is f u n c))
+      (units-val f u (kept (prec f) (n * 2 ^ low f) c) (drop (prec f) (n * 2 ^ low f) c) h)
 
   under : n < limit f * c → grid f n c < overflow f
   under h =
       lt-of-not-le
-      (λ (g : overflow f ≤ grid f n c). too-far (n * 2 ^ low f) (grid f n c * c) ((2 ^ prec f - 1) * 2 ^ suc (low f + emax f - prec f) * c) (overflow f * c) (2 ^ (low f + emax f - prec f) * c)
-      (mul-le-mul-right c g) bound (sums ((2 ^ prec f - 1) * 2 ^ suc (low f + emax f - prec f)) (limit-is f .1)) (mul-pos (pow-pos (low f + emax f - prec f)) C) (kept-near (prec f) (n * 2 ^ low f) c p-pos C ((2 ^ prec f - 1) * 2 ^ suc (low f + emax f - prec f)) (largest-short f)))
+      (λ (g : overflow f ≤ grid f n c). too-far (n * 2 ^ low f) (grid f n c * c) ((2 ^ prec f - 1) * 2 ^ suc (low f + emax f - prec f) * c) (overflow f * c)
+      (2 ^ (low f + emax f - prec f) * c)
+      (mul-le-mul-right c g) bound (sums ((2 ^ prec f - 1) * 2 ^ suc (low f + emax f - prec f)) (limit-is f .1))
+      (mul-pos (pow-pos (low f + emax f - prec f)) C) (kept-near (prec f) (n * 2 ^ low f) c p-pos C ((2 ^ prec f - 1) * 2 ^ suc (low f + emax f - prec f))
+      (largest-short f)))
     where
       bound : n * 2 ^ low f + 2 ^ (low f + emax f - prec f) * c < overflow f * c
       bound =
-          lt-of-lt-of-le (more (n * 2 ^ low f) (limit f * 2 ^ low f * c) (2 ^ (low f + emax f - prec f) * c) (lt-of-lt-of-le (mul-lt-mul-of-pos-right h (pow-pos (low f))) (le-of-eq (mul-right-comm (limit f) c (2 ^ low f)))))
+          lt-of-lt-of-le (more (n * 2 ^ low f) (limit f * 2 ^ low f * c) (2 ^ (low f + emax f - prec f) * c)
+          (lt-of-lt-of-le (mul-lt-mul-of-pos-right h (pow-pos (low f))) (le-of-eq (mul-right-comm (limit f) c (2 ^ low f)))))
           (le-of-eq (sym (add-mul (limit f * 2 ^ low f) (2 ^ (low f + emax f - prec f)) c) ∙ ap (λ (y : ℕ). y * c) (limit-is f .0)))
         where
           more : (a b z : ℕ) → a < b → a + z < b + z
           more a b z h = omega arith
 
       sums : (M : ℕ) → M + 2 * 2 ^ (low f + emax f - prec f) ≡ overflow f → M * c + 2 * (2 ^ (low f + emax f - prec f) * c) ≡ overflow f * c
-      sums M e = ap (λ (y : ℕ). M * c + y) (sym (mul-assoc 2 (2 ^ (low f + emax f - prec f)) c)) ∙ sym (add-mul M (2 * 2 ^ (low f + emax f - prec f)) c) ∙ ap (λ (y : ℕ). y * c) e
+      sums M e = ap (λ (y : ℕ). M * c + y) (sym (mul-assoc 2 (2 ^ (low f + emax f - prec f)) c)) ∙ sym (add-mul M (2 * 2 ^ (low f + emax f - prec f)) c)
+          ∙ ap (λ (y : ℕ). y * c) e
 
   opposite : (t : Bool) → (Bool·beq u t ≡ true) ⊎ (Bool·beq u t ≡ false)
   opposite t = go (Bool·beq u t)
@@ -130,8 +139,10 @@ module _ (f : Format) (u : Bool) (n c : ℕ) (C : 0 < c) where
   near-count t w S = go (opposite t)
     where
       go : (Bool·beq u t ≡ true) ⊎ (Bool·beq u t ≡ false) → dist (n * 2 ^ low f) (grid f n c * c) ≤ apart u (n * 2 ^ low f) t (w * c)
-      go (inl e) = le-trans (kept-near (prec f) (n * 2 ^ low f) c p-pos C w S) (le-of-eq (sym (ap (λ (b : Bool). cond b (dist (n * 2 ^ low f) (w * c)) (n * 2 ^ low f + w * c)) e)))
-      go (inr e) = le-trans within (le-trans (le-add-right (n * 2 ^ low f) (w * c)) (le-of-eq (sym (ap (λ (b : Bool). cond b (dist (n * 2 ^ low f) (w * c)) (n * 2 ^ low f + w * c)) e))))
+      go (inl e) = le-trans (kept-near (prec f) (n * 2 ^ low f) c p-pos C w S)
+          (le-of-eq (sym (ap (λ (b : Bool). cond b (dist (n * 2 ^ low f) (w * c)) (n * 2 ^ low f + w * c)) e)))
+      go (inr e) = le-trans within (le-trans (le-add-right (n * 2 ^ low f) (w * c))
+          (le-of-eq (sym (ap (λ (b : Bool). cond b (dist (n * 2 ^ low f) (w * c)) (n * 2 ^ low f + w * c)) e))))
 
   even-count : (t : Bool) (w : ℕ) → Short (prec f) w → apart u (n * 2 ^ low f) t (w * c) ≤ dist (n * 2 ^ low f) (grid f n c * c)
       → ((w ≡ grid f n c) × ((t ≡ u) ⊎ (w ≡ 0))) ⊎ (kept (prec f) (n * 2 ^ low f) c % 2 ≡ 0)
@@ -161,17 +172,21 @@ module _ (f : Format) (u : Bool) (n c : ℕ) (C : 0 < c) where
           small a z e = omega arith
 
       go : (Bool·beq u t ≡ true) ⊎ (Bool·beq u t ≡ false) → ((w ≡ grid f n c) × ((t ≡ u) ⊎ (w ≡ 0))) ⊎ (kept (prec f) (n * 2 ^ low f) c % 2 ≡ 0)
-      go (inl e) = pick (kept-even (prec f) (n * 2 ^ low f) c p-pos C w S (le-trans (le-of-eq (sym (ap (λ (b : Bool). cond b (dist (n * 2 ^ low f) (w * c)) (n * 2 ^ low f + w * c)) e))) h))
+      go (inl e) = pick (kept-even (prec f) (n * 2 ^ low f) c p-pos C w S
+          (le-trans (le-of-eq (sym (ap (λ (b : Bool). cond b (dist (n * 2 ^ low f) (w * c)) (n * 2 ^ low f + w * c)) e))) h))
         where
-          pick : (w ≡ grid f n c) ⊎ (kept (prec f) (n * 2 ^ low f) c % 2 ≡ 0) → ((w ≡ grid f n c) × ((t ≡ u) ⊎ (w ≡ 0))) ⊎ (kept (prec f) (n * 2 ^ low f) c % 2 ≡ 0)
+          pick : (w ≡ grid f n c) ⊎ (kept (prec f) (n * 2 ^ low f) c % 2 ≡ 0)
+              → ((w ≡ grid f n c) × ((t ≡ u) ⊎ (w ≡ 0))) ⊎ (kept (prec f) (n * 2 ^ low f) c % 2 ≡ 0)
           pick (inl a) = inl (a, inl (same-sign u t e))
           pick (inr a) = inr a
       go (inr e) =
-          let g : n * 2 ^ low f + w * c ≤ dist (n * 2 ^ low f) (grid f n c * c) = le-trans (le-of-eq (sym (ap (λ (b : Bool). cond b (dist (n * 2 ^ low f) (w * c)) (n * 2 ^ low f + w * c)) e))) h in
+          let g : n * 2 ^ low f + w * c ≤ dist (n * 2 ^ low f) (grid f n c * c) = le-trans
+          (le-of-eq (sym (ap (λ (b : Bool). cond b (dist (n * 2 ^ low f) (w * c)) (n * 2 ^ low f + w * c)) e))) h in
           let z : w ≡ 0 = vanishes g in
           pick z (kept-even (prec f) (n * 2 ^ low f) c p-pos C w S (le-trans (at-zero z) g))
         where
-          pick : w ≡ 0 → (w ≡ grid f n c) ⊎ (kept (prec f) (n * 2 ^ low f) c % 2 ≡ 0) → ((w ≡ grid f n c) × ((t ≡ u) ⊎ (w ≡ 0))) ⊎ (kept (prec f) (n * 2 ^ low f) c % 2 ≡ 0)
+          pick : w ≡ 0 → (w ≡ grid f n c) ⊎ (kept (prec f) (n * 2 ^ low f) c % 2 ≡ 0)
+              → ((w ≡ grid f n c) × ((t ≡ u) ⊎ (w ≡ 0))) ⊎ (kept (prec f) (n * 2 ^ low f) c % 2 ≡ 0)
           pick z (inl a) = inl (a, inr z)
           pick z (inr a) = inr a
 
@@ -183,17 +198,21 @@ module _ (f : Format) (u : Bool) (n c : ℕ) (C : 0 < c) where
       record {
         value = (round-fits f u n c, finite-of r u g (2 ^ low f) H);
         near = λ v K. let C' = counted f v K in
-            near-out u n c (2 ^ low f) (pow-pos (low f)) r v u (sign v) g (C' .count) H (C' .has) (le-trans (le-of-eq own) (near-count (sign v) (C' .count) (C' .short)));
+            near-out u n c (2 ^ low f) (pow-pos (low f)) r v u (sign v) g (C' .count) H (C' .has)
+            (le-trans (le-of-eq own) (near-count (sign v) (C' .count) (C' .short)));
         even = λ v K k d. let C' = counted f v K in
             pick v C' d
-            (even-count (sign v) (C' .count) (C' .short) (le-trans (near-in u n c (2 ^ low f) (pow-pos (low f)) v r (sign v) u (C' .count) g (C' .has) H k) (le-of-eq own)));
+            (even-count (sign v) (C' .count) (C' .short) (le-trans (near-in u n c (2 ^ low f) (pow-pos (low f)) v r (sign v) u (C' .count) g (C' .has) H k)
+            (le-of-eq own)));
         signed-zero = λ z. sign-of r u g (2 ^ low f) H;
       }
     where
       pick : (v : Float) (K : Counted f v) → T (ne v (round f u n c)) → ((K .count ≡ grid f n c) × ((sign v ≡ u) ⊎ (K .count ≡ 0))) ⊎ (kept (prec f) (n * 2 ^ low f) c % 2 ≡ 0) → Even f (round f u n c)
       pick v K d (inl (e, o)) =
-          absurd (equal-numbers v (round f u n c) (sign v) u (K .count) (2 ^ low f) (pow-pos (low f)) (K .has) (subst (λ (y : ℕ). HasValue (round f u n c) u y (2 ^ low f)) (sym e) (round-has (under h))) o d)
-      pick v K d (inr e) = last-bit f (round f u n c) u (kept (prec f) (n * 2 ^ low f) c) (drop (prec f) (n * 2 ^ low f) c) q-most q-full (round-has (under h)) ∙ e
+          absurd (equal-numbers v (round f u n c) (sign v) u (K .count) (2 ^ low f) (pow-pos (low f)) (K .has)
+          (subst (λ (y : ℕ). HasValue (round f u n c) u y (2 ^ low f)) (sym e) (round-has (under h))) o d)
+      pick v K d (inr e) = last-bit f (round f u n c) u (kept (prec f) (n * 2 ^ low f) c) (drop (prec f) (n * 2 ^ low f) c) q-most q-full
+          (round-has (under h)) ∙ e
 
 -- ---- from the limit on
 limit-rounds : (f : Format) → round f false (limit f) 1 ≡ inf false
@@ -212,4 +231,5 @@ round-over f u n c C h = round-is f u n c ∙ units-inf f u (kept (prec f) (n * 
     past : overflow f ≤ grid f n c
     past =
         le-of-suc-le-suc (lt-of-not-le (λ (g : suc (grid f n c) ≤ overflow f). above-inf (round f false n c) (grid f n c) (2 ^ low f)
-        (subst (λ (x : Float). T (le x (round f false n c))) (limit-rounds f) (round-mono f (limit f) 1 n c (zero-lt-suc 0) C (le-trans h (le-of-eq (sym (mul-one n)))))) (round-has f false n c C g)))
+        (subst (λ (x : Float). T (le x (round f false n c))) (limit-rounds f)
+        (round-mono f (limit f) 1 n c (zero-lt-suc 0) C (le-trans h (le-of-eq (sym (mul-one n)))))) (round-has f false n c C g)))

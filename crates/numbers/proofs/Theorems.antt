@@ -2,24 +2,24 @@
 use mathlib.Core.Path.{_≡_, refl, sym, ap, ap₂, _∙_, subst}
 use mathlib.Core.Logic.{_⊎_, inl, inr}
 use Prim.Native.Nat.{ℕ, zero, suc, _+_, _-_, _*_, _^_, _≤_, _<_, compare, Ordering, Ordering·lt, Ordering·eq, Ordering·gt}
-use native.Mathlib.Nat.{le-of-eq, le-of-lt, le-trans, lt-of-lt-of-le, not-le-of-lt, lt-irrefl, mul-pos, mul-lt-mul-of-pos-right, zero-mul, mul-le-mul, eq-zero-or-pos, zero-lt-suc}
+use native.Mathlib.Nat.{le-of-eq, le-of-lt, le-trans, not-le-of-lt, lt-irrefl, mul-pos, mul-lt-mul-of-pos-right, zero-mul, zero-lt-suc}
 use native.Mathlib.Omega.{arith}
-use mathlib.Core.Bool.{Bool, true, false, not, _&&_, Bool·beq, cond, true≢false}
+use mathlib.Core.Bool.{Bool, true, false, _&&_, Bool·beq, cond, true≢false}
 use lib.IntN.{ℤ, pos, negsuc, natAbs, _+ℤ_, _*ℤ_, +ℤ-comm}
 use lib.Dec.{T, lt→ltb}
-use lib.Pow.{pow-pos, pow-lt}
-use lib.Ieee.{Float, nan, inf, fin, Format, emax, prec, low, up, down, unlike, below, round, sum}
+use lib.Pow.{pow-pos}
+use lib.Ieee.{Float, nan, inf, fin, Format, low, up, down, unlike, round, sum}
 use lib.Ieee.Fits.{up-pos, down-pos}
-use lib.Ieee.Positive.{num, den}
+use lib.Ieee.Positive.{num}
 use lib.Ieee.Scale.{finite}
 use Rattle.numbers.specs.Fused.{fused, root}
-use Rattle.numbers.specs.Nearest.{signed, over, Nearest, Near, NearRoot, exact, divisor, signOf, exactSign, limit, Answers}
+use Rattle.numbers.specs.Nearest.{signed, Nearest, Near, NearRoot, exact, divisor, signOf, exactSign, limit, Answers}
 use Rattle.numbers.proofs.Orders.{Cmp, cmp}
 use Rattle.numbers.proofs.Sums.{sum-plus, sum-less, sum-more, sum-none}
-use Rattle.numbers.proofs.Integers.{size-signed, product, plus, plus-same, plus-other, apart, middle}
+use Rattle.numbers.proofs.Integers.{size-signed, product, plus, plus-same, plus-other, apart}
 use Rattle.numbers.proofs.Grid.{dist}
 use Rattle.numbers.proofs.Rounding.{round-nearest, round-over, near-in}
-use Rattle.numbers.proofs.RootRounding.{square-le, square-lt}
+use Rattle.numbers.proofs.RootRounding.{square-lt}
 use Rattle.numbers.proofs.RootNearest.{InCounts, root-in, root-is-nearest}
 use Rattle.numbers.proofs.Only.{only}
 
@@ -85,10 +85,24 @@ rounded f s a t b c = go (Bool·beq s t) refl
         by : (o : Ordering) → Cmp o a b → Rounded f s a t b c
         by Ordering·lt h =
             let k : signed s a +ℤ signed t b ≡ signed t (b - a) = +ℤ-comm (signed s a) (signed t b) ∙ plus-other t s b a (swap s t e) (le-of-lt h) in
-            record { neg = t; size = b - a; is = sum-less f s a t b c e h; total = k; signs = ap (λ (z : ℤ). signOf z (s && t)) k ∙ positive-sign t (s && t) (b - a) (some a b h) }
+            record {
+              neg = t;
+              size = b - a;
+              is = sum-less f s a t b c e h;
+              total = k;
+              signs = ap (λ (z : ℤ). signOf z (s && t)) k
+                  ∙ positive-sign t (s && t) (b - a) (some a b h);
+            }
         by Ordering·gt h =
             let k : signed s a +ℤ signed t b ≡ signed s (a - b) = plus-other s t a b e (le-of-lt h) in
-            record { neg = s; size = a - b; is = sum-more f s a t b c e h; total = k; signs = ap (λ (z : ℤ). signOf z (s && t)) k ∙ positive-sign s (s && t) (a - b) (some b a h) }
+            record {
+              neg = s;
+              size = a - b;
+              is = sum-more f s a t b c e h;
+              total = k;
+              signs = ap (λ (z : ℤ). signOf z (s && t)) k
+                  ∙ positive-sign s (s && t) (a - b) (some b a h);
+            }
         by Ordering·eq h =
             let z : a - b ≡ 0 = omega arith in
             let k : signed s a +ℤ signed t b ≡ pos 0 = plus-other s t a b e (le-of-eq (sym h)) ∙ ap (signed s) z ∙ none s in
@@ -143,7 +157,8 @@ fused-nearest f x y z h k l b =
     (subst (λ (a : ℤ). Nearest f (Near a c) (r .neg) (fused f x y z)) (sym (r .total))
     (subst (λ (v : Float). Nearest f (Near (signed (r .neg) (r .size)) c) (r .neg) v) (sym (r .is)) (round-nearest f (r .neg) (r .size) c (r .some) n)))
 
-fused-over : (f : Format) (x y z : Float) → T (finite x) → T (finite y) → T (finite z) → limit f * divisor x y z ≤ natAbs (exact x y z) → fused f x y z ≡ inf (exactSign x y z)
+fused-over : (f : Format) (x y z : Float) → T (finite x) → T (finite y) → T (finite z) → limit f * divisor x y z ≤ natAbs (exact x y z)
+    → fused f x y z ≡ inf (exactSign x y z)
 fused-over f x y z h k l b =
     let r = at-finite f x y z h k l in
     let c = divisor x y z in
@@ -249,7 +264,8 @@ module _ (n c : ℕ) (N : 0 < n) (C : 0 < c) where
 
   below-zero : (w : ℕ) → 0 < w → InCounts n c true w false 0 → ⊥
   below-zero w h i =
-      no (n * 4) ((0 - w) * (0 - w) * c) (mul-pos N (zero-lt-suc 3)) (ap (λ (y : ℕ). y * (0 - w) * c) (none w) ∙ ap (λ (y : ℕ). y * c) (zero-mul (0 - w)) ∙ zero-mul c)
+      no (n * 4) ((0 - w) * (0 - w) * c) (mul-pos N (zero-lt-suc 3)) (ap (λ (y : ℕ). y * (0 - w) * c) (none w) ∙ ap (λ (y : ℕ). y * c) (zero-mul (0 - w))
+      ∙ zero-mul c)
       (i .0 (lt→ltb 0 (w + 0) (omega arith)))
     where
       no : (a b : ℕ) → 0 < a → b ≡ 0 → a ≤ b → ⊥
@@ -269,7 +285,8 @@ root-only f n c s r r' N C h k =
     let l = 2 ^ low f in
     let m = n * (l * l) in
     let M : 0 < m = mul-pos N (mul-pos (pow-pos (low f)) (pow-pos (low f))) in
-    only f (NearRoot n c) s (λ s w t x. InCounts m c s w t x) (λ r v s t w x i j e. root-in n c l (pow-pos (low f)) r v s t w x i j e) (root-between m c M C) (root-across m c M C) r r' h k
+    only f (NearRoot n c) s (λ s w t x. InCounts m c s w t x) (λ r v s t w x i j e. root-in n c l (pow-pos (low f)) r v s t w x i j e) (root-between m c M C)
+    (root-across m c M C) r r' h k
 
 pub answers : Answers
 answers = record {

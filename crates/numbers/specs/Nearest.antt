@@ -1,9 +1,10 @@
 -- What IEEE 754 asks of F and the root, said without a rounding: the answer is the value of the format that is nearest to the exact number, a tie the even one.
 -- `Answers` gathers it, and proofs/Theorems.antt proves `Answers`. So nothing of how lib.Ieee rounds has to be trusted. Definitions only. Assumes nothing.
 -- Where an operand of F is a NaN or an infinity nothing is rounded, and F's clauses in `Fused` are the rules themselves: a NaN makes a NaN, 0 times an infinity
--- and infinities of opposite signs make a NaN, and any other infinity stays. So it is with the root of a NaN, of an infinity, of a zero and of a number below zero.
+-- and infinities of opposite signs make a NaN, and any other infinity stays. So it is with the root of a NaN, of an infinity, of a zero and of a number below
+-- zero.
 use mathlib.Core.Path.{_≡_}
-use Prim.Native.Nat.{ℕ, zero, suc, _+_, _-_, _*_, _%_, _^_, _≤_, _<_}
+use Prim.Native.Nat.{ℕ, zero, suc, _-_, _*_, _%_, _^_, _≤_, _<_}
 use mathlib.Core.Bool.{Bool, true, false, _&&_, cond}
 use lib.IntN.{ℤ, pos, negsuc, negℤ, natAbs, _+ℤ_, _-ℤ_, _*ℤ_}
 use lib.Dec.{T}

@@ -59,7 +59,8 @@ double m d h k e = record { fits = subst (λ (y : ℕ). y * 2 < 2 ^ 64) (sym (fu
     go x h = omega arith
 
 -- with b, 0 or 1, the two that goes to the significand
-squared : (m e d b : ℕ) → Fields binary64 m e → d ≡ size m → (e + l - (p - d)) % 2 ≡ b → b ≤ 1 → Squared binary64 m e ((m * 2 ^ (p - d)) % 2 ^ 64 * 2 ^ b) ((e + l - (p - d)) / 2)
+squared : (m e d b : ℕ) → Fields binary64 m e → d ≡ size m → (e + l - (p - d)) % 2 ≡ b → b ≤ 1
+    → Squared binary64 m e ((m * 2 ^ (p - d)) % 2 ^ 64 * 2 ^ b) ((e + l - (p - d)) / 2)
 squared m e d b f i z one =
     let F = full m d (f .some) (f .most) i in
     let x = m * 2 ^ (p - d) in

@@ -1,4 +1,5 @@
--- `fused::wide::multiply` meets its contract: each product of two halves is at most (2^32 - 1)^2, so no column overflows, and the columns add up. Assumes nothing.
+-- `fused::wide::multiply` meets its contract: each product of two halves is at most (2^32 - 1)^2, so no column overflows, and the columns add up. Assumes
+-- nothing.
 use Prim.Native.Nat.{ℕ, _*_, _/_, _%_, _^_, _<_, _≤_}
 use native.Mathlib.Nat.{mul-le-mul}
 use native.Mathlib.Omega.{arith}
