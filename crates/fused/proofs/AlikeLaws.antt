@@ -152,7 +152,8 @@ scaled c g {n} {m} C G k =
     none r z = eq-of-mul-eq-mul-right g G r 0 (z ∙ sym (zero-mul g))
 
 -- ---- rounding a fraction with a power of two below
-pub round-at : (f : Format) (s : Bool) (n x : ℕ) → round f s n (2 ^ (x + low f)) ≡ units f s (closest n (2 ^ (x + (size (n / 2 ^ x) - prec f)))) (size (n / 2 ^ x) - prec f)
+pub round-at : (f : Format) (s : Bool) (n x : ℕ)
+    → round f s n (2 ^ (x + low f)) ≡ units f s (closest n (2 ^ (x + (size (n / 2 ^ x) - prec f)))) (size (n / 2 ^ x) - prec f)
 round-at f s n x =
     let l = low f in
     let p = prec f in

@@ -27,12 +27,21 @@ columns P a₀ a₁ b₀ b₁ q₀ r₀ q r q₁ r₁ e₀ e e₁ =
     ∙ step₃ P a₀ a₁ b₁ r₀ q r ∙ ap (λ (x : ℕ). a₁ * b₁ * (P * P) + q * (P * P) + x * P + r₀) e₁
     ∙ step₄ P a₁ b₁ r₀ q q₁ r₁
 
-pub whole : (P u v : ℕ)
-    → (u / P * (v / P) + (u / P * (v % P) + u % P * (v % P) / P) / P + ((u / P * (v % P) + u % P * (v % P) / P) % P + u % P * (v / P)) / P) * (P * P) + (((u / P * (v % P) + u % P * (v % P) / P) % P + u % P * (v / P)) % P * P + u % P * (v % P) % P) ≡ u * v
+-- the columns of u * v, each with what is carried into it
+abbrev pub right : ℕ → ℕ → ℕ → ℕ
+right P u v = u % P * (v % P)
+
+abbrev pub inner : ℕ → ℕ → ℕ → ℕ
+inner P u v = u / P * (v % P) + right P u v / P
+
+abbrev pub outer : ℕ → ℕ → ℕ → ℕ
+outer P u v = inner P u v % P + u % P * (v / P)
+
+pub whole : (P u v : ℕ) → (u / P * (v / P) + inner P u v / P + outer P u v / P) * (P * P) + (outer P u v % P * P + right P u v % P) ≡ u * v
 whole P u v =
-    let w = u % P * (v % P) in
-    let t = u / P * (v % P) + w / P in
-    let x = t % P + u % P * (v / P) in
+    let w = right P u v in
+    let t = inner P u v in
+    let x = outer P u v in
     sym (columns P (u % P) (u / P) (v % P) (v / P) (w / P) (w % P) (t / P) (t % P) (x / P) (x % P)
     (sym (div-add-mod' w P)) (sym (div-add-mod' t P)) (sym (div-add-mod' x P)))
     ∙ ap₂ _*_ (div-add-mod' u P) (div-add-mod' v P)

@@ -12,6 +12,9 @@ ghost use Rattle.fused.specs.Steps.{Fields, Rooted, Stepped, Squared};
 // The two highest digits of a limb have this weight.
 const TOP_PAIR: u64 = 0x4000_0000_0000_0000;
 
+// A number of 54 digits goes to the top of a limb by this.
+const TO_THE_TOP: u64 = 1024;
+
 // How many digits of the root are worked out.
 const TURNS: u64 = PRECISION + 4;
 

@@ -53,18 +53,25 @@ module _ (u : Bool) (n c l : ℕ) (L : 0 < l) (r v : Float) (s t : Bool) (w x : 
   near-out e = le-of-mul-le-mul-right (le-trans (le-of-eq left) (le-trans (mul-le-mul-right (den r * den v) e) (le-of-eq (sym right)))) L
 
 -- ---- the limit, in counts: half a unit of the last place below what overflows
+-- half a unit in the last place of the largest numbers, and the largest number
+abbrev half : Format → ℕ
+half f = 2 ^ (low f + emax f - prec f)
+
+abbrev largest : Format → ℕ
+largest f = (2 ^ prec f - 1) * 2 ^ suc (low f + emax f - prec f)
+
 module _ (f : Format) where
-  pub largest-short : Short (prec f) ((2 ^ prec f - 1) * 2 ^ suc (low f + emax f - prec f))
+  largest-short : Short (prec f) (largest f)
   largest-short = record { head = 2 ^ prec f - 1; zeros = suc (low f + emax f - prec f); is = refl; few = less (2 ^ prec f) (pow-pos (prec f)) }
     where
       less : (p : ℕ) → 0 < p → p - 1 < p
       less p h = omega arith
 
-  pub limit-is : (limit f * 2 ^ low f + 2 ^ (low f + emax f - prec f) ≡ overflow f)
-      × ((2 ^ prec f - 1) * 2 ^ suc (low f + emax f - prec f) + 2 * 2 ^ (low f + emax f - prec f) ≡ overflow f)
+  limit-is : (limit f * 2 ^ low f + half f ≡ overflow f)
+      × (largest f + 2 * half f ≡ overflow f)
   limit-is = go f
     where
-      go : (f : Format) → (limit f * 2 ^ low f + 2 ^ (low f + emax f - prec f) ≡ overflow f) × ((2 ^ prec f - 1) * 2 ^ suc (low f + emax f - prec f) + 2 * 2 ^ (low f + emax f - prec f) ≡ overflow f)
+      go : (f : Format) → (limit f * 2 ^ low f + half f ≡ overflow f) × (largest f + 2 * half f ≡ overflow f)
       go binary32 = (refl, refl)
       go binary64 = (refl, refl)
 
@@ -72,43 +79,49 @@ module _ (f : Format) where
 too-far : (n x l o z : ℕ) → o ≤ x → n + z < o → l + 2 * z ≡ o → 0 < z → dist n x ≤ dist n l → ⊥
 too-far n x l o z a b c d e = omega arith
 
--- ---- `round`
+-- ---- what `round` keeps of n / c, and how many digits it drops
+abbrev significand : Format → ℕ → ℕ → ℕ
+significand f n c = kept (prec f) (n * 2 ^ low f) c
+
+abbrev behind : Format → ℕ → ℕ → ℕ
+behind f n c = drop (prec f) (n * 2 ^ low f) c
+
 module _ (f : Format) (u : Bool) (n c : ℕ) (C : 0 < c) where
   p-pos : 0 < prec f
   p-pos = two-le-pos (prec f) (two f)
 
-  q-most : kept (prec f) (n * 2 ^ low f) c ≤ 2 ^ prec f
-  q-most = let v = c * 2 ^ drop (prec f) (n * 2 ^ low f) c in
+  q-most : significand f n c ≤ 2 ^ prec f
+  q-most = let v = c * 2 ^ behind f n c in
       le-trans (nearest-le (n * 2 ^ low f / v) (compare (n * 2 ^ low f % v * 2) v)) (few-head (prec f) (n * 2 ^ low f) c)
 
-  q-full : 0 < drop (prec f) (n * 2 ^ low f) c → hid f ≤ kept (prec f) (n * 2 ^ low f) c
-  q-full h = let v = c * 2 ^ drop (prec f) (n * 2 ^ low f) c in
+  q-full : 0 < behind f n c → hid f ≤ significand f n c
+  q-full h = let v = c * 2 ^ behind f n c in
       le-trans (full-head (prec f) (n * 2 ^ low f) c p-pos h) (nearest-ge (n * 2 ^ low f / v) (compare (n * 2 ^ low f % v * 2) v))
 
   pub round-has : grid f n c < overflow f → HasValue (round f u n c) u (grid f n c) (2 ^ low f)
   round-has h = subst (λ (x : Float). HasValue x u (grid f n c) (2 ^ low f)) (sym (round-is f u n c))
-      (units-val f u (kept (prec f) (n * 2 ^ low f) c) (drop (prec f) (n * 2 ^ low f) c) h)
+      (units-val f u (significand f n c) (behind f n c) h)
 
   under : n < limit f * c → grid f n c < overflow f
   under h =
       lt-of-not-le
-      (λ (g : overflow f ≤ grid f n c). too-far (n * 2 ^ low f) (grid f n c * c) ((2 ^ prec f - 1) * 2 ^ suc (low f + emax f - prec f) * c) (overflow f * c)
-      (2 ^ (low f + emax f - prec f) * c)
-      (mul-le-mul-right c g) bound (sums ((2 ^ prec f - 1) * 2 ^ suc (low f + emax f - prec f)) (limit-is f .1))
-      (mul-pos (pow-pos (low f + emax f - prec f)) C) (kept-near (prec f) (n * 2 ^ low f) c p-pos C ((2 ^ prec f - 1) * 2 ^ suc (low f + emax f - prec f))
+      (λ (g : overflow f ≤ grid f n c). too-far (n * 2 ^ low f) (grid f n c * c) (largest f * c) (overflow f * c)
+      (half f * c)
+      (mul-le-mul-right c g) bound (sums (largest f) (limit-is f .1))
+      (mul-pos (pow-pos (low f + emax f - prec f)) C) (kept-near (prec f) (n * 2 ^ low f) c p-pos C (largest f)
       (largest-short f)))
     where
-      bound : n * 2 ^ low f + 2 ^ (low f + emax f - prec f) * c < overflow f * c
+      bound : n * 2 ^ low f + half f * c < overflow f * c
       bound =
-          lt-of-lt-of-le (more (n * 2 ^ low f) (limit f * 2 ^ low f * c) (2 ^ (low f + emax f - prec f) * c)
+          lt-of-lt-of-le (more (n * 2 ^ low f) (limit f * 2 ^ low f * c) (half f * c)
           (lt-of-lt-of-le (mul-lt-mul-of-pos-right h (pow-pos (low f))) (le-of-eq (mul-right-comm (limit f) c (2 ^ low f)))))
-          (le-of-eq (sym (add-mul (limit f * 2 ^ low f) (2 ^ (low f + emax f - prec f)) c) ∙ ap (λ (y : ℕ). y * c) (limit-is f .0)))
+          (le-of-eq (sym (add-mul (limit f * 2 ^ low f) (half f) c) ∙ ap (λ (y : ℕ). y * c) (limit-is f .0)))
         where
           more : (a b z : ℕ) → a < b → a + z < b + z
           more a b z h = omega arith
 
-      sums : (M : ℕ) → M + 2 * 2 ^ (low f + emax f - prec f) ≡ overflow f → M * c + 2 * (2 ^ (low f + emax f - prec f) * c) ≡ overflow f * c
-      sums M e = ap (λ (y : ℕ). M * c + y) (sym (mul-assoc 2 (2 ^ (low f + emax f - prec f)) c)) ∙ sym (add-mul M (2 * 2 ^ (low f + emax f - prec f)) c)
+      sums : (M : ℕ) → M + 2 * half f ≡ overflow f → M * c + 2 * (half f * c) ≡ overflow f * c
+      sums M e = ap (λ (y : ℕ). M * c + y) (sym (mul-assoc 2 (half f) c)) ∙ sym (add-mul M (2 * half f) c)
           ∙ ap (λ (y : ℕ). y * c) e
 
   opposite : (t : Bool) → (Bool·beq u t ≡ true) ⊎ (Bool·beq u t ≡ false)
@@ -145,7 +158,7 @@ module _ (f : Format) (u : Bool) (n c : ℕ) (C : 0 < c) where
           (le-of-eq (sym (ap (λ (b : Bool). cond b (dist (n * 2 ^ low f) (w * c)) (n * 2 ^ low f + w * c)) e))))
 
   even-count : (t : Bool) (w : ℕ) → Short (prec f) w → apart u (n * 2 ^ low f) t (w * c) ≤ dist (n * 2 ^ low f) (grid f n c * c)
-      → ((w ≡ grid f n c) × ((t ≡ u) ⊎ (w ≡ 0))) ⊎ (kept (prec f) (n * 2 ^ low f) c % 2 ≡ 0)
+      → ((w ≡ grid f n c) × ((t ≡ u) ⊎ (w ≡ 0))) ⊎ (significand f n c % 2 ≡ 0)
   even-count t w S h = go (opposite t)
     where
       same-sign : (u t : Bool) → Bool·beq u t ≡ true → t ≡ u
@@ -171,12 +184,12 @@ module _ (f : Format) (u : Bool) (n c : ℕ) (C : 0 < c) where
           small : (a z : ℕ) → z ≡ 0 → dist a z ≤ a + z
           small a z e = omega arith
 
-      go : (Bool·beq u t ≡ true) ⊎ (Bool·beq u t ≡ false) → ((w ≡ grid f n c) × ((t ≡ u) ⊎ (w ≡ 0))) ⊎ (kept (prec f) (n * 2 ^ low f) c % 2 ≡ 0)
+      go : (Bool·beq u t ≡ true) ⊎ (Bool·beq u t ≡ false) → ((w ≡ grid f n c) × ((t ≡ u) ⊎ (w ≡ 0))) ⊎ (significand f n c % 2 ≡ 0)
       go (inl e) = pick (kept-even (prec f) (n * 2 ^ low f) c p-pos C w S
           (le-trans (le-of-eq (sym (ap (λ (b : Bool). cond b (dist (n * 2 ^ low f) (w * c)) (n * 2 ^ low f + w * c)) e))) h))
         where
-          pick : (w ≡ grid f n c) ⊎ (kept (prec f) (n * 2 ^ low f) c % 2 ≡ 0)
-              → ((w ≡ grid f n c) × ((t ≡ u) ⊎ (w ≡ 0))) ⊎ (kept (prec f) (n * 2 ^ low f) c % 2 ≡ 0)
+          pick : (w ≡ grid f n c) ⊎ (significand f n c % 2 ≡ 0)
+              → ((w ≡ grid f n c) × ((t ≡ u) ⊎ (w ≡ 0))) ⊎ (significand f n c % 2 ≡ 0)
           pick (inl a) = inl (a, inl (same-sign u t e))
           pick (inr a) = inr a
       go (inr e) =
@@ -185,8 +198,8 @@ module _ (f : Format) (u : Bool) (n c : ℕ) (C : 0 < c) where
           let z : w ≡ 0 = vanishes g in
           pick z (kept-even (prec f) (n * 2 ^ low f) c p-pos C w S (le-trans (at-zero z) g))
         where
-          pick : w ≡ 0 → (w ≡ grid f n c) ⊎ (kept (prec f) (n * 2 ^ low f) c % 2 ≡ 0)
-              → ((w ≡ grid f n c) × ((t ≡ u) ⊎ (w ≡ 0))) ⊎ (kept (prec f) (n * 2 ^ low f) c % 2 ≡ 0)
+          pick : w ≡ 0 → (w ≡ grid f n c) ⊎ (significand f n c % 2 ≡ 0)
+              → ((w ≡ grid f n c) × ((t ≡ u) ⊎ (w ≡ 0))) ⊎ (significand f n c % 2 ≡ 0)
           pick z (inl a) = inl (a, inr z)
           pick z (inr a) = inr a
 
@@ -207,11 +220,11 @@ module _ (f : Format) (u : Bool) (n c : ℕ) (C : 0 < c) where
         signed-zero = λ z. sign-of r u g (2 ^ low f) H;
       }
     where
-      pick : (v : Float) (K : Counted f v) → T (ne v (round f u n c)) → ((K .count ≡ grid f n c) × ((sign v ≡ u) ⊎ (K .count ≡ 0))) ⊎ (kept (prec f) (n * 2 ^ low f) c % 2 ≡ 0) → Even f (round f u n c)
+      pick : (v : Float) (K : Counted f v) → T (ne v (round f u n c)) → ((K .count ≡ grid f n c) × ((sign v ≡ u) ⊎ (K .count ≡ 0))) ⊎ (significand f n c % 2 ≡ 0) → Even f (round f u n c)
       pick v K d (inl (e, o)) =
           absurd (equal-numbers v (round f u n c) (sign v) u (K .count) (2 ^ low f) (pow-pos (low f)) (K .has)
           (subst (λ (y : ℕ). HasValue (round f u n c) u y (2 ^ low f)) (sym e) (round-has (under h))) o d)
-      pick v K d (inr e) = last-bit f (round f u n c) u (kept (prec f) (n * 2 ^ low f) c) (drop (prec f) (n * 2 ^ low f) c) q-most q-full
+      pick v K d (inr e) = last-bit f (round f u n c) u (significand f n c) (behind f n c) q-most q-full
           (round-has (under h)) ∙ e
 
 -- ---- from the limit on
@@ -226,7 +239,7 @@ above-inf (inf s) w l t h = h
 above-inf (fin s m e) w l t h = t
 
 pub round-over : (f : Format) (u : Bool) (n c : ℕ) → 0 < c → limit f * c ≤ n → round f u n c ≡ inf u
-round-over f u n c C h = round-is f u n c ∙ units-inf f u (kept (prec f) (n * 2 ^ low f) c) (drop (prec f) (n * 2 ^ low f) c) past
+round-over f u n c C h = round-is f u n c ∙ units-inf f u (significand f n c) (behind f n c) past
   where
     past : overflow f ≤ grid f n c
     past =

@@ -1,5 +1,5 @@
--- `fused::terms::pack_wide` meets its contract: two limbs have more digits than are kept, with two to spare, so squeezing them changes no answer. Assumes
--- nothing.
+-- `fused::terms::pack_wide` meets its contract: two limbs have more digits than are kept, with two to spare, so squeezing them changes no answer.
+-- Assumes nothing.
 use mathlib.Core.Path.{_≡_, sym, ap, ap₂, _∙_, subst}
 use mathlib.Core.Logic.{_⊎_, inl, inr}
 use Prim.Native.Nat.{ℕ, _+_, _-_, _*_, _^_, _≤_, _<_}
