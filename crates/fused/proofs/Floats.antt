@@ -21,11 +21,15 @@ use Rattle.numbers.proofs.Values as Values
 use Rattle.fused.specs.Steps.{isZero, ordinary}
 
 -- ---- the tests
-pub plus-inf : div binary64 (ofBits binary64 4607182418800017408) (ofBits binary64 0) ≡ inf false
+-- the bits of 1.0
+abbrev oneBits : ℕ
+oneBits = 0x3ff0000000000000
+
+pub plus-inf : div binary64 (ofBits binary64 oneBits) (ofBits binary64 0) ≡ inf false
 unfolding div ofBits
 plus-inf = refl
 
-pub minus-inf : div binary64 (neg (ofBits binary64 4607182418800017408)) (ofBits binary64 0) ≡ inf true
+pub minus-inf : div binary64 (neg (ofBits binary64 oneBits)) (ofBits binary64 0) ≡ inf true
 unfolding div ofBits neg
 minus-inf = refl
 

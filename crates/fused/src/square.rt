@@ -61,7 +61,7 @@ pub(crate) fn root_digits(n: u64) -> u64
     ensures { λ s. ⌜ Rooted (n * 4 ^ 30) s ⌝ }
 {
     let mut d = Partial {
-        a: n * 1024,
+        a: n * TO_THE_TOP,
         q: 0,
         r: 0,
     };

@@ -220,7 +220,9 @@ module _ (f : Format) (u : Bool) (n c : ℕ) (C : 0 < c) where
         signed-zero = λ z. sign-of r u g (2 ^ low f) H;
       }
     where
-      pick : (v : Float) (K : Counted f v) → T (ne v (round f u n c)) → ((K .count ≡ grid f n c) × ((sign v ≡ u) ⊎ (K .count ≡ 0))) ⊎ (significand f n c % 2 ≡ 0) → Even f (round f u n c)
+      pick : (v : Float) (K : Counted f v) → T (ne v (round f u n c))
+          → ((K .count ≡ grid f n c) × ((sign v ≡ u) ⊎ (K .count ≡ 0))) ⊎ (significand f n c % 2 ≡ 0)
+          → Even f (round f u n c)
       pick v K d (inl (e, o)) =
           absurd (equal-numbers v (round f u n c) (sign v) u (K .count) (2 ^ low f) (pow-pos (low f)) (K .has)
           (subst (λ (y : ℕ). HasValue (round f u n c) u y (2 ^ low f)) (sym e) (round-has (under h))) o d)

@@ -1,17 +1,18 @@
 -- `fused::root` meets its contract: of an ordinary number above zero the root is the digits', packed, and any other operand needs no digits. Assumes nothing.
 use mathlib.Core.Path.{refl, sym, ap, _∙_}
-use Prim.Native.Nat.{ℕ, _+_, _*_, _^_, _<_}
+use Prim.Native.Nat.{ℕ, suc, _+_, _-_, _*_, _^_, _<_}
 use native.Mathlib.Omega.{arith}
 use borrow.Author.Needs.{needs}
 use lib.Pow.{pow-pos}
-use lib.Ieee.{binary64, low, lt}
+use lib.Ieee.{binary64, emax, low, lt}
 use Rattle.numbers.proofs.Roots.{root-at}
+use Rattle.fused.specs.Steps.{below, far}
 use Rattle.fused.proofs.Floats.{zero-is, nan-is, root-negative, root-itself, not-negative, value-pos, not-yes, not-no}
 use Rattle.fused.proofs.Rooting.{digits-pos, rooted-scaled}
 use Rattle.fused.proofs.root.Statement.{statement}
 use Rattle.fused.proofs.root.Tie as tie
 
-fit : (g : ℕ) → g < 2048 → g + 1059 < 4160
+fit : (g : ℕ) → g < 2 * suc (emax binary64) → g + (below binary64 - 1 - 30) < far binary64 + 64
 fit g h = omega arith
 
 returns : tie.Need-returns

@@ -6,7 +6,7 @@ use native.Mathlib.Omega.{arith}
 use borrow.Author.Needs.{needs}
 use lib.Dec.{T, leb}
 use lib.Pow.{pow-pos}
-use lib.Ieee.{binary64, low, hid, ones, top, fits, toBits}
+use lib.Ieee.{binary64, emax, low, hid, ones, top, fits, toBits}
 use Rattle.fused.specs.Steps.{Fields}
 use Rattle.fused.proofs.Floats.{ordinary-number, value-pos, low-fields, high-fields}
 use Rattle.fused.proofs.number.unpack.Statement.{statement}
@@ -28,7 +28,7 @@ normal : (b : ℕ) → (suc (b % top binary64 / hid binary64 - 1) ≡ ones binar
     → Fields binary64 (hid binary64 + b % hid binary64) (b % top binary64 / hid binary64 - 1)
 normal b h = record { some = omega arith; most = omega arith; full = λ z. omega arith; near = limit (b % top binary64) (omega arith) h }
   where
-    limit : (r : ℕ) → r < top binary64 → (suc (r / hid binary64 - 1) ≡ ones binary64 → ⊥) → r / hid binary64 - 1 < 2046
+    limit : (r : ℕ) → r < top binary64 → (suc (r / hid binary64 - 1) ≡ ones binary64 → ⊥) → r / hid binary64 - 1 < 2 * emax binary64
     limit r l n = omega arith
 
 float-to-bits-bits : tie.Need-float-to-bits-bits

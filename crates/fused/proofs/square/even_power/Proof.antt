@@ -8,7 +8,7 @@ use borrow.Author.Needs.{needs}
 use mir.Syntax.{w64}
 use mir.Val.{Fits}
 use lib.Pow.{pow-add, shl-exact}
-use lib.Ieee.{binary64, prec, low, hid, size}
+use lib.Ieee.{binary64, prec, emax, low, hid, size}
 use lib.Ieee.Digits.{size-le, size-lt, size-reaches}
 use Rattle.numbers.proofs.Sizes.{size-shl, size-pos}
 use Rattle.numbers.proofs.Roots.{four-pow}
@@ -90,7 +90,7 @@ squared m e d b f i z one =
     reach : (d : ℕ) → 0 < d → 30 ≤ (e + l - (p - d)) / 2
     reach d h = omega arith
 
-    limit : (d : ℕ) → e < 2046 → (e + l - (p - d)) / 2 < 2048
+    limit : (d : ℕ) → e < 2 * emax binary64 → (e + l - (p - d)) / 2 < 2 * suc (emax binary64)
     limit d h = omega arith
 
 digits-requires : tie.Need-digits-requires

@@ -7,7 +7,7 @@ use native.Mathlib.Nat.{le-of-lt, eq-zero-or-pos}
 use native.Mathlib.Omega.{arith}
 use borrow.Author.Needs.{needs}
 use lib.Pow.{pow-add, pow-pos}
-use lib.Ieee.{binary64, prec, low, sum, unlike}
+use lib.Ieee.{binary64, prec, low, hid, sum, unlike}
 use Rattle.numbers.proofs.Sums.{sum-scaled}
 use Rattle.fused.specs.Steps.{scale, Fields, Terms}
 use Rattle.fused.proofs.terms.multiply_add.Statement.{statement}
@@ -50,21 +50,21 @@ terms m e n d p g x y z =
     wide : (p : ℕ) → p < 2 ^ prec binary64 → p * 2 ^ 10 < 2 ^ 63
     wide p h = omega arith
 
-    full : (p : ℕ) → 2 ^ 52 ≤ p → 2 ^ 62 ≤ p * 2 ^ 10
+    full : (p : ℕ) → hid binary64 ≤ p → 2 ^ 62 ≤ p * 2 ^ 10
     full p h = omega arith
 
-    long-factor : (m : ℕ) → 2 ^ 52 ≤ m → 2 ^ 63 ≤ m * 2 ^ 11
+    long-factor : (m : ℕ) → hid binary64 ≤ m → 2 ^ 63 ≤ m * 2 ^ 11
     long-factor m h = omega arith
 
     some-factor : (m : ℕ) → 0 < m → 2 ^ 11 ≤ m * 2 ^ 11
     some-factor m h = omega arith
 
-    none : (e d g : ℕ) → e ≡ 0 → d ≡ 0 → g + 1080 < e + d + 5 → ⊥
+    none : (e d g : ℕ) → e ≡ 0 → d ≡ 0 → g + (low binary64 + 6) < e + d + 5 → ⊥
     none e d g h k l = omega arith
 
     large : g + (low binary64 + 6) < e + d + 5 → (e ≡ 0) ⊎ (0 < e) → (d ≡ 0) ⊎ (0 < d) → 2 ^ 63 ≤ m * 2 ^ 11 * n
     large h (inr i) j = mul-le-mul {n₁ = 2 ^ 63} {m₁ = 1} (long-factor m (x .full i)) (y .some)
-    large h (inl i) (inr j) = mul-le-mul {n₁ = 2 ^ 11} {m₁ = 2 ^ 52} (some-factor m (x .some)) (y .full j)
+    large h (inl i) (inr j) = mul-le-mul {n₁ = 2 ^ 11} {m₁ = hid binary64} (some-factor m (x .some)) (y .full j)
     large h (inl i) (inl j) = absurd (none e d g i j h)
 
 mul-multiply : tie.Need-mul-multiply
