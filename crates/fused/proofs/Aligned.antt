@@ -59,7 +59,8 @@ halves w a h = ap (λ (y : ℕ). w / 2 * y) (pow-succ' 2 a) ∙ sym (mul-assoc (
 
 -- 2 ^ (B + a), twice, is what a term of B + 1 digits behind its leading one has at least
 twice : (B a w : ℕ) → 2 ^ suc B ≤ w → 2 ^ (B + a) + 2 ^ (B + a) ≤ w * 2 ^ a
-twice B a w h = le-trans (le-of-eq (dbl (2 ^ (B + a)) ∙ sym (pow-succ' 2 (B + a)) ∙ ap (λ (y : ℕ). 2 ^ y) (one B a) ∙ pow-add 2 (suc B) a)) (mul-le-mul-right (2 ^ a) h)
+twice B a w h = le-trans (le-of-eq (dbl (2 ^ (B + a)) ∙ sym (pow-succ' 2 (B + a)) ∙ ap (λ (y : ℕ). 2 ^ y) (one B a) ∙ pow-add 2 (suc B) a))
+    (mul-le-mul-right (2 ^ a) h)
   where
     dbl : (p : ℕ) → p + p ≡ 2 * p
     dbl p = omega arith
@@ -89,7 +90,8 @@ finer f B room s w a t m b l even W M =
     high a B p h = omega arith
 
 -- ---- two limbs times 2 ^ a in units of 2 ^ b, where b is above a by 64 or more
-pub coarse : (f : Format) (B : ℕ) → prec f + 1 ≤ B → (s : Bool) (h l a : ℕ) (t : Bool) (m b : ℕ) → 64 ≤ b - a → l < 2 ^ 64 → limbs h l < 2 ^ (64 + prec f) → m % 2 ≡ 0
+pub coarse : (f : Format) (B : ℕ) → prec f + 1 ≤ B → (s : Bool) (h l a : ℕ) (t : Bool) (m b : ℕ) → 64 ≤ b - a → l < 2 ^ 64 → limbs h l < 2 ^ (64 + prec f)
+    → m % 2 ≡ 0
     → (low f + 6 < b → 2 ^ suc B ≤ m)
     → sum f s (cutToOdd (toOdd h l) (b - a - 64) * 2 ^ b) t (m * 2 ^ b) (scale f) ≡ sum f s (limbs h l * 2 ^ a) t (m * 2 ^ b) (scale f)
 unfolding limbs
@@ -111,12 +113,14 @@ coarse f B room s h l a t m b D L W even M =
     subst (λ (y : ℕ). Alike y (w * 2 ^ a) (o * G)) (mul-left-comm (2 ^ d) 2 G ∙ ap (λ (y : ℕ). 2 * y) (sym g) ∙ sym (pow-succ' 2 b))
     (coarser (2 * G) (2 ^ d) (mul-pos two-pos G-pos) (pow-pos d) k1) in
     let k3 : Alike (2 ^ suc b) (o * G) (c * 2 ^ b) =
-    subst (λ (y : ℕ). Alike y (o * G) (c * 2 ^ b)) (ap (λ (y : ℕ). y * G) (pow-succ' 2 d) ∙ mul-assoc 2 (2 ^ d) G ∙ ap (λ (y : ℕ). 2 * y) (sym g) ∙ sym (pow-succ' 2 b))
+    subst (λ (y : ℕ). Alike y (o * G) (c * 2 ^ b)) (ap (λ (y : ℕ). y * G) (pow-succ' 2 d) ∙ mul-assoc 2 (2 ^ d) G ∙ ap (λ (y : ℕ). 2 * y) (sym g)
+    ∙ sym (pow-succ' 2 b))
     (subst (λ (y : ℕ). Alike (2 ^ suc d * G) (o * G) y) (mul-assoc c (2 ^ d) G ∙ ap (λ (y : ℕ). c * y) (sym g))
     (scaled (2 ^ suc d) G (pow-pos (suc d)) G-pos (cut-alike o d))) in
     let N : w * 2 ^ a < 2 ^ (B + b) = lt-of-lt-of-le (shl-lt (64 + prec f) a W) (pow-mono (down a b B (prec f) D room)) in
     let r : sum f t (m / 2 * 2 ^ suc b) s (w * 2 ^ a) (scale f) ≡ sum f t (m / 2 * 2 ^ suc b) s (c * 2 ^ b) (scale f) =
-    replace f t (m / 2) s (w * 2 ^ a) (c * 2 ^ b) (suc b) (chain k2 k3) (subst (λ (y : ℕ). Apart f (suc b) y (w * 2 ^ a)) (sym e) (place (reach (low f) b) N)) in
+    replace f t (m / 2) s (w * 2 ^ a) (c * 2 ^ b) (suc b) (chain k2 k3)
+    (subst (λ (y : ℕ). Apart f (suc b) y (w * 2 ^ a)) (sym e) (place (reach (low f) b) N)) in
     sum-swap f s (c * 2 ^ b) t (m * 2 ^ b) (scale f)
     ∙ sym (subst (λ (y : ℕ). sum f t y s (w * 2 ^ a) (scale f) ≡ sum f t y s (c * 2 ^ b) (scale f)) e r)
     ∙ sum-swap f t (m * 2 ^ b) s (w * 2 ^ a) (scale f)

@@ -1,14 +1,13 @@
 -- Two whole numbers that a rounding cannot tell apart: they have the same whole part in units of c, and neither or both are a multiple of c.
 -- So they round alike to every multiple of 2 * c (`closest-alike`). Assumes nothing.
-use mathlib.Core.Path.{_≡_, refl, sym, ap, ap₂, _∙_, subst}
-use mathlib.Core.Logic.{_⊎_, inl, inr}
-use Prim.Native.Nat.{ℕ, zero, suc, _+_, _-_, _*_, _/_, _%_, _^_, _≤_, _<_, compare, Ordering, Ordering·lt, Ordering·eq, Ordering·gt}
-use native.Mathlib.Nat.{mod-lt, div-div-eq-div-mul, mul-comm, mul-right-comm, mul-pos, add-mul, mul-le-mul-right, le-of-lt, lt-of-lt-of-le, le-refl, eq-or-lt-of-le, suc-mul, zero-lt-suc, div-add-mod', le-total}
+use mathlib.Core.Path.{_≡_, sym, ap, ap₂, _∙_, subst}
+use Prim.Native.Nat.{ℕ, _+_, _*_, _/_, _%_, _≤_, _<_, compare, Ordering, Ordering·lt, Ordering·eq, Ordering·gt}
+use native.Mathlib.Nat.{mod-lt, div-div-eq-div-mul, mul-comm, mul-right-comm, mul-pos, mul-le-mul-right, suc-mul, zero-lt-suc}
 use native.Mathlib.Omega.{arith}
 use lib.Arith.{mod-mul}
 use lib.Ieee.{nearest}
 use lib.Ieee.Nearest.{closest}
-use Rattle.numbers.proofs.Orders.{Cmp, cmp, cmp-lt, cmp-eq, cmp-gt, cmp-same}
+use Rattle.numbers.proofs.Orders.{Cmp, cmp, cmp-lt, cmp-gt, cmp-same}
 
 -- ---- alike
 pub record Alike (c n m : ℕ) : Type 0 where

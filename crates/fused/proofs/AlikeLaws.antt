@@ -1,14 +1,15 @@
 -- Laws of `Alike`: it is kept by a coarser unit, and by adding or taking away a multiple of the unit; and numbers that are alike round alike. Assumes nothing.
 use mathlib.Core.Path.{_≡_, refl, sym, ap, ap₂, _∙_, subst}
 use mathlib.Core.Logic.{_⊎_, inl, inr}
-use Prim.Native.Nat.{ℕ, zero, suc, _+_, _-_, _*_, _/_, _%_, _^_, _≤_, _<_, compare}
-use native.Mathlib.Nat.{mod-lt, div-div-eq-div-mul, mul-comm, mul-assoc, mul-left-comm, mul-pos, mul-le-mul-right, le-trans, le-of-eq, eq-zero-or-pos, zero-lt-suc, div-add-mod', add-comm, add-mul-mod-self-right, add-mul-div-right, lt-of-lt-of-le, zero-mul, suc-mul, add-mul, mul-mod-left, div-lt-iff-lt-mul, le-div-iff-mul-le, mul-div-mul-right, mul-lt-mul-of-pos-right, lt-of-mul-lt-mul-right, lt-of-le-of-lt, one-mul, eq-of-mul-eq-mul-right, mul-div-cancel, add-assoc}
+use Prim.Native.Nat.{ℕ, suc, _+_, _-_, _*_, _/_, _%_, _^_, _≤_, _<_}
+use native.Mathlib.Nat.{mod-lt, div-div-eq-div-mul, mul-comm, mul-assoc, mul-left-comm, mul-pos, eq-zero-or-pos, div-add-mod', zero-mul, add-mul}
+use native.Mathlib.Nat.{mul-mod-left, div-lt-iff-lt-mul, le-div-iff-mul-le, mul-div-mul-right, mul-lt-mul-of-pos-right, lt-of-mul-lt-mul-right, one-mul}
+use native.Mathlib.Nat.{eq-of-mul-eq-mul-right, mul-div-cancel, add-assoc}
 use native.Mathlib.Omega.{arith}
-use mathlib.Core.Bool.{Bool, true, false, not}
-use lib.Dec.{T, ltb, ltb→lt, nltb→le}
+use mathlib.Core.Bool.{Bool}
 use lib.Arith.{mod-mul, digits-div, digits-mod}
 use lib.Pow.{pow-add, pow-pos}
-use lib.Ieee.{Float, Format, prec, low, size, units, round}
+use lib.Ieee.{Format, prec, low, size, units, round}
 use lib.Ieee.Fits.{round-is}
 use lib.Ieee.Nearest.{closest, closest-same}
 use Rattle.fused.proofs.Alike.{Alike, closest-alike}
@@ -54,7 +55,8 @@ more c x {n} {m} C k =
     of-digits c (x + n / c) (x * c + n) (x * c + m) (n % c) (m % c) (mod-lt n C) (mod-lt m C) (join n refl) (join m (sym (k .whole))) (k .to) (k .from)
   where
     join : (y : ℕ) → y / c ≡ n / c → x * c + y ≡ (x + n / c) * c + y % c
-    join y e = ap (λ (z : ℕ). x * c + z) (parts c y ∙ ap (λ (z : ℕ). z * c + y % c) e) ∙ sym (add-assoc (x * c) (n / c * c) (y % c)) ∙ ap (λ (z : ℕ). z + y % c) (sym (add-mul x (n / c) c))
+    join y e = ap (λ (z : ℕ). x * c + z) (parts c y ∙ ap (λ (z : ℕ). z * c + y % c) e) ∙ sym (add-assoc (x * c) (n / c * c) (y % c))
+        ∙ ap (λ (z : ℕ). z + y % c) (sym (add-mul x (n / c) c))
 
 unlike-zero : (r s : ℕ) → (s ≡ 0 → r ≡ 0) → 0 < r → 0 < s
 unlike-zero r s b h = go (eq-zero-or-pos s)
@@ -95,8 +97,10 @@ less c x {n} {m} C h k = go (eq-zero-or-pos (n % c))
     go (inr l) =
         let w = x - suc (n / c) in
         let under : n / c < x = lt-of-mul-lt-mul-right c (some (n / c * c) (n % c) n (with-i n refl) l h) in
-        let all : x * c ≡ n / c * c + c + w * c = ap (λ (z : ℕ). z * c) (wide x (n / c) under) ∙ add-mul (n / c + 1) w c ∙ ap (λ (z : ℕ). z + w * c) (add-mul (n / c) 1 c ∙ ap (λ (z : ℕ). n / c * c + z) (one-mul c)) in
-        of-digits c w (x * c - n) (x * c - m) (c - n % c) (c - m % c) (small (n % c) l (mod-lt n C)) (small (m % c) (unlike-zero (n % c) (m % c) (k .from) l) (mod-lt m C))
+        let all : x * c ≡ n / c * c + c + w * c = ap (λ (z : ℕ). z * c) (wide x (n / c) under) ∙ add-mul (n / c + 1) w c
+        ∙ ap (λ (z : ℕ). z + w * c) (add-mul (n / c) 1 c ∙ ap (λ (z : ℕ). n / c * c + z) (one-mul c)) in
+        of-digits c w (x * c - n) (x * c - m) (c - n % c) (c - m % c) (small (n % c) l (mod-lt n C))
+        (small (m % c) (unlike-zero (n % c) (m % c) (k .from) l) (mod-lt m C))
         (take (n / c * c) (w * c) (n % c) n (x * c) all (with-i n refl) (mod-lt n C))
         (take (n / c * c) (w * c) (m % c) m (x * c) all (with-i m (sym (k .whole))) (mod-lt m C))
         (not-zero (n % c) (c - m % c) (mod-lt n C))
@@ -117,7 +121,8 @@ fewer c x {n} {m} C h k =
     take p q r y z a b = omega arith
 
     split : (y : ℕ) → y / c ≡ n / c → y - x * c ≡ (n / c - x) * c + y % c
-    split y e = take (x * c) ((n / c - x) * c) (y % c) y (n / c * c) (parts c y ∙ ap (λ (z : ℕ). z * c + y % c) e) (ap (λ (z : ℕ). z * c) (wide x (n / c) le) ∙ add-mul x (n / c - x) c)
+    split y e = take (x * c) ((n / c - x) * c) (y % c) y (n / c * c) (parts c y ∙ ap (λ (z : ℕ). z * c + y % c) e)
+        (ap (λ (z : ℕ). z * c) (wide x (n / c) le) ∙ add-mul x (n / c - x) c)
 
 -- which of the two is larger than a multiple of c
 pub below : (c x : ℕ) {n m : ℕ} → 0 < c → Alike c n m → n < x * c → m < x * c
@@ -135,17 +140,20 @@ equal c x {n} {m} C k h =
 -- with both multiplied
 pub scaled : (c g : ℕ) {n m : ℕ} → 0 < c → 0 < g → Alike c n m → Alike (c * g) (n * g) (m * g)
 scaled c g {n} {m} C G k =
-    of-digits (c * g) (n / c) (n * g) (m * g) (n % c * g) (m % c * g) (mul-lt-mul-of-pos-right (mod-lt n C) G) (mul-lt-mul-of-pos-right (mod-lt m C) G) (split n refl) (split m (sym (k .whole)))
+    of-digits (c * g) (n / c) (n * g) (m * g) (n % c * g) (m % c * g) (mul-lt-mul-of-pos-right (mod-lt n C) G) (mul-lt-mul-of-pos-right (mod-lt m C) G)
+    (split n refl) (split m (sym (k .whole)))
     (λ z. ap (λ (y : ℕ). y * g) (k .to (none (n % c) z)) ∙ zero-mul g) (λ z. ap (λ (y : ℕ). y * g) (k .from (none (m % c) z)) ∙ zero-mul g)
   where
     split : (y : ℕ) → y / c ≡ n / c → y * g ≡ n / c * (c * g) + y % c * g
-    split y e = ap (λ (z : ℕ). z * g) (parts c y ∙ ap (λ (z : ℕ). z * c + y % c) e) ∙ add-mul (n / c * c) (y % c) g ∙ ap (λ (z : ℕ). z + y % c * g) (mul-assoc (n / c) c g)
+    split y e = ap (λ (z : ℕ). z * g) (parts c y ∙ ap (λ (z : ℕ). z * c + y % c) e) ∙ add-mul (n / c * c) (y % c) g
+        ∙ ap (λ (z : ℕ). z + y % c * g) (mul-assoc (n / c) c g)
 
     none : (r : ℕ) → r * g ≡ 0 → r ≡ 0
     none r z = eq-of-mul-eq-mul-right g G r 0 (z ∙ sym (zero-mul g))
 
 -- ---- rounding a fraction with a power of two below
-pub round-at : (f : Format) (s : Bool) (n x : ℕ) → round f s n (2 ^ (x + low f)) ≡ units f s (closest n (2 ^ (x + (size (n / 2 ^ x) - prec f)))) (size (n / 2 ^ x) - prec f)
+pub round-at : (f : Format) (s : Bool) (n x : ℕ)
+    → round f s n (2 ^ (x + low f)) ≡ units f s (closest n (2 ^ (x + (size (n / 2 ^ x) - prec f)))) (size (n / 2 ^ x) - prec f)
 round-at f s n x =
     let l = low f in
     let p = prec f in
@@ -154,7 +162,8 @@ round-at f s n x =
     round-is f s n (2 ^ (x + l))
     ∙ ap (λ (z : ℕ). units f s (closest (n * 2 ^ l) (2 ^ (x + l) * 2 ^ (size z - p))) (size z - p)) e
     ∙ ap (λ (z : ℕ). units f s z k)
-    (closest-same (n * 2 ^ l) (2 ^ (x + l) * 2 ^ k) n (2 ^ (x + k)) (mul-pos (pow-pos (x + l)) (pow-pos k)) (pow-pos (x + k)) (simp (mul-assoc, mul-left-comm, pow-add)))
+    (closest-same (n * 2 ^ l) (2 ^ (x + l) * 2 ^ k) n (2 ^ (x + k)) (mul-pos (pow-pos (x + l)) (pow-pos k)) (pow-pos (x + k))
+    (simp (mul-assoc, mul-left-comm, pow-add)))
 
 sizes : (a b x v p : ℕ) → a - v ≡ b - v → v + 1 ≤ x + (a - x - p) → a - x ≡ b - x
 sizes a b x v p h k = omega arith
@@ -162,7 +171,8 @@ sizes a b x v p h k = omega arith
 spread : (v w : ℕ) → v + 1 ≤ w → w ≡ w - v - 1 + 1 + v
 spread v w h = omega arith
 
-pub round-alike : (f : Format) (s : Bool) (n m x v : ℕ) → Alike (2 ^ v) n m → v + 1 ≤ x + (size n - x - prec f) → round f s n (2 ^ (x + low f)) ≡ round f s m (2 ^ (x + low f))
+pub round-alike : (f : Format) (s : Bool) (n m x v : ℕ) → Alike (2 ^ v) n m → v + 1 ≤ x + (size n - x - prec f)
+    → round f s n (2 ^ (x + low f)) ≡ round f s m (2 ^ (x + low f))
 round-alike f s n m x v k h =
     let p = prec f in
     let z : size n - x ≡ size m - x = sizes (size n) (size m) x v p (sym (size-shr n v) ∙ ap size (k .whole) ∙ size-shr m v) h in

@@ -1,23 +1,20 @@
 -- A sum of two signed fractions, and what may be put in the place of one of them. Assumes nothing.
 use mathlib.Core.Path.{_≡_, refl, sym, ap, ap₂, _∙_, subst}
 use mathlib.Core.Logic.{_⊎_, inl, inr}
-use Prim.Native.Nat.{ℕ, zero, suc, _+_, _-_, _*_, _/_, _%_, _^_, _≤_, _<_, compare, Ordering, Ordering·lt, Ordering·eq, Ordering·gt}
-use native.Mathlib.Nat.{le-trans, le-of-eq, le-of-lt, lt-of-lt-of-le, lt-of-le-of-lt, mul-comm, mul-assoc, mul-one, mul-pos, mul-sub, mul-le-mul-right, mul-lt-mul-of-pos-right, add-mul, add-comm, add-zero, eq-zero-or-pos, le-add-right, zero-mul, mul-right-comm}
+use Prim.Native.Nat.{ℕ, suc, _+_, _-_, _*_, _^_, _≤_, _<_, compare, Ordering, Ordering·lt, Ordering·eq, Ordering·gt}
+use native.Mathlib.Nat.{le-trans, le-of-eq, le-of-lt, mul-assoc, mul-one, mul-le-mul-right, add-comm, add-zero, le-add-right}
 use native.Mathlib.Omega.{arith}
-use mathlib.Core.Bool.{Bool, true, false, not, cond, _&&_, Bool·beq}
-use borrow.Author.Tests.{lt-ltb, le-ltb}
-use lib.Dec.{T, ltb, ltb→lt, nltb→le}
+use mathlib.Core.Bool.{Bool, true, false, Bool·beq}
 use lib.Arith.{digits-lt}
-use lib.Pow.{pow-add, pow-pos, pow-mono}
-use lib.Ieee.{Float, Format, prec, low, size, round, sum}
+use lib.Pow.{pow-add, pow-pos}
+use lib.Ieee.{Format, prec, low, size, round, sum}
 use lib.Ieee.Digits.{size-lt, size-reaches}
-use lib.Ieee.Scale.{round-same}
 use Rattle.fused.specs.Odd.{cutToOdd}
 use Rattle.numbers.proofs.Orders.{Cmp, cmp}
 use Rattle.numbers.proofs.Sums.{sum-plus, sum-less, sum-more, sum-none}
 use Rattle.fused.proofs.Alike.{Alike}
-use Rattle.fused.proofs.AlikeLaws.{same, swap, scaled, more, less, fewer, below, equal, round-alike}
-use Rattle.numbers.proofs.Sizes.{size-exact, size-pos, size-shl, pow-lt-back}
+use Rattle.fused.proofs.AlikeLaws.{swap, scaled, more, less, fewer, below, equal, round-alike}
+use Rattle.numbers.proofs.Sizes.{size-exact, size-pos, size-shl}
 use Rattle.fused.proofs.Cutting.{cut-alike, cut-exact}
 
 -- ---- a number cut, and rounded
@@ -30,8 +27,10 @@ round-squeeze f s w n e x h (inr l) =
     let a : Alike (2 ^ suc n * 2 ^ e) (w * 2 ^ e) (cutToOdd w n * 2 ^ n * 2 ^ e) = scaled (2 ^ suc n) (2 ^ e) (pow-pos (suc n)) (pow-pos e) (cut-alike w n) in
     let b : Alike (2 ^ (suc n + e)) (w * 2 ^ e) (cutToOdd w n * 2 ^ (e + n)) =
     subst (λ (y : ℕ). Alike y (w * 2 ^ e) (cutToOdd w n * 2 ^ (e + n))) (sym (pow-add 2 (suc n) e))
-    (subst (λ (y : ℕ). Alike (2 ^ suc n * 2 ^ e) (w * 2 ^ e) y) (mul-assoc (cutToOdd w n) (2 ^ n) (2 ^ e) ∙ ap (λ (y : ℕ). cutToOdd w n * y) (sym (pow-add 2 n e) ∙ ap (λ (y : ℕ). 2 ^ y) (add-comm n e))) a) in
-    sym (round-alike f s (w * 2 ^ e) (cutToOdd w n * 2 ^ (e + n)) x (suc n + e) b (subst (λ (y : ℕ). suc n + e + 1 ≤ x + (y - x - prec f)) (sym (size-shl w e h)) (up n e (x + (size w + e - x - prec f)) l)))
+    (subst (λ (y : ℕ). Alike (2 ^ suc n * 2 ^ e) (w * 2 ^ e) y) (mul-assoc (cutToOdd w n) (2 ^ n) (2 ^ e)
+    ∙ ap (λ (y : ℕ). cutToOdd w n * y) (sym (pow-add 2 n e) ∙ ap (λ (y : ℕ). 2 ^ y) (add-comm n e))) a) in
+    sym (round-alike f s (w * 2 ^ e) (cutToOdd w n * 2 ^ (e + n)) x (suc n + e) b
+    (subst (λ (y : ℕ). suc n + e + 1 ≤ x + (y - x - prec f)) (sym (size-shl w e h)) (up n e (x + (size w + e - x - prec f)) l)))
   where
     up : (n e y : ℕ) → n + e + 2 ≤ y → suc n + e + 1 ≤ y
     up n e y h = omega arith
@@ -98,7 +97,8 @@ module _ (f : Format) (s : Bool) (x : ℕ) (t : Bool) (n m X v : ℕ) (k : Alike
                 ∙ round-alike f t (n - x * 2 ^ v) (m - x * 2 ^ v) X v (fewer (2 ^ v) x (pow-pos v) (le-of-lt h) k) (over h)
                 ∙ sym (sum-less f s (x * 2 ^ v) t m (2 ^ (X + low f)) e (above h))
             by Ordering·eq h =
-                sum-none f s (x * 2 ^ v) t n (2 ^ (X + low f)) e h ∙ sym (sum-none f s (x * 2 ^ v) t m (2 ^ (X + low f)) e (sym (equal (2 ^ v) x (pow-pos v) k (sym h))))
+                sum-none f s (x * 2 ^ v) t n (2 ^ (X + low f)) e h ∙ sym
+                (sum-none f s (x * 2 ^ v) t m (2 ^ (X + low f)) e (sym (equal (2 ^ v) x (pow-pos v) k (sym h))))
             by Ordering·gt h =
                 sum-more f s (x * 2 ^ v) t n (2 ^ (X + low f)) e h
                 ∙ round-alike f s (x * 2 ^ v - n) (x * 2 ^ v - m) X v (less (2 ^ v) x (pow-pos v) (le-of-lt h) k) (under h)

@@ -1,17 +1,18 @@
--- A number cut by some digits and made odd where something was cut off is alike the number, so a rounding two digits further up cannot tell them apart (`round-cut`).
+-- A number cut by some digits and made odd where something was cut off is alike the number, so a rounding two digits further up cannot tell them apart
+-- (`round-cut`).
 -- Assumes nothing.
 use mathlib.Core.Path.{_≡_, refl, sym, ap, ap₂, _∙_, subst}
 use mathlib.Core.Logic.{_⊎_, inl, inr}
-use Prim.Native.Nat.{ℕ, zero, suc, _+_, _-_, _*_, _/_, _%_, _^_, _≤_, _<_, compare}
-use native.Mathlib.Nat.{mod-lt, mul-comm, mul-assoc, mul-left-comm, mul-pos, le-trans, le-of-eq, eq-zero-or-pos, zero-lt-suc, div-add-mod', lt-of-lt-of-le, lt-of-le-of-lt, mul-mod-left, mul-div-cancel, mul-div-mul-right, add-zero, add-assoc, add-mul, pow-succ', one-mul, mul-one, zero-mul, lt-irrefl, le-div-iff-mul-le}
+use Prim.Native.Nat.{ℕ, zero, suc, _+_, _-_, _*_, _/_, _%_, _^_, _≤_, _<_}
+use native.Mathlib.Nat.{mod-lt, mul-comm, mul-assoc, mul-pos, le-trans, le-of-eq, eq-zero-or-pos, zero-lt-suc, div-add-mod', lt-of-lt-of-le, mul-mod-left}
+use native.Mathlib.Nat.{mul-div-cancel, mul-div-mul-right, add-zero, add-assoc, add-mul, pow-succ', one-mul, zero-mul, le-div-iff-mul-le}
 use native.Mathlib.Omega.{arith}
-use mathlib.Core.Bool.{Bool, true, false, not, cond}
+use mathlib.Core.Bool.{Bool, cond}
 use borrow.Author.Tests.{eq-eqb, ne-eqb}
-use lib.Dec.{eqb}
 use lib.Arith.{mod-mul}
 use lib.Pow.{pow-add, pow-pos, pow-mono, shr-lt}
-use lib.Ieee.{Float, Format, prec, low, size, units, round}
-use lib.Ieee.Digits.{size-lt, size-le, size-reaches}
+use lib.Ieee.{Format, prec, low, size, units, round}
+use lib.Ieee.Digits.{size-lt, size-reaches}
 use lib.Ieee.Nearest.{closest, closest-same}
 use Rattle.fused.specs.Odd.{toOdd, cutToOdd}
 use Rattle.fused.proofs.Alike.{Alike, closest-alike}
@@ -35,10 +36,12 @@ pub odd-alike : (c q r n : ℕ) → r < c → n ≡ q * c + r → Alike (2 * c) 
 odd-alike c q r n l e = go (eq-zero-or-pos r)
   where
     go : (r ≡ 0) ⊎ (0 < r) → Alike (2 * c) n (toOdd q r * c)
-    go (inl z) = subst (λ (y : ℕ). Alike (2 * c) n y) (e ∙ ap (λ (y : ℕ). q * c + y) z ∙ add-zero (q * c) ∙ ap (λ (y : ℕ). y * c) (sym (is-even q r z))) (same (2 * c) n)
+    go (inl z) = subst (λ (y : ℕ). Alike (2 * c) n y) (e ∙ ap (λ (y : ℕ). q * c + y) z ∙ add-zero (q * c) ∙ ap (λ (y : ℕ). y * c) (sym (is-even q r z)))
+        (same (2 * c) n)
     go (inr h) =
         of-digits (2 * c) (q / 2) n (toOdd q r * c) (q % 2 * c + r) c (small (q % 2) (q % 2 * c) c r (bit q) (at-most (q % 2) c (bit q)) l) (less c r l)
-        (e ∙ ap (λ (y : ℕ). y + r) (ap (λ (y : ℕ). y * c) (sym (div-add-mod' q 2)) ∙ add-mul (q / 2 * 2) (q % 2) c ∙ ap (λ (y : ℕ). y + q % 2 * c) (mul-assoc (q / 2) 2 c)) ∙ add-assoc (q / 2 * (2 * c)) (q % 2 * c) r)
+        (e ∙ ap (λ (y : ℕ). y + r) (ap (λ (y : ℕ). y * c) (sym (div-add-mod' q 2)) ∙ add-mul (q / 2 * 2) (q % 2) c
+        ∙ ap (λ (y : ℕ). y + q % 2 * c) (mul-assoc (q / 2) 2 c)) ∙ add-assoc (q / 2 * (2 * c)) (q % 2 * c) r)
         (ap (λ (y : ℕ). y * c) (is-odd q r h) ∙ add-mul (q / 2 * 2) 1 c ∙ ap₂ _+_ (mul-assoc (q / 2) 2 c) (one-mul c))
         (λ z. absurd (no (q % 2 * c) r h z))
         (λ z. absurd (no2 c r l z))
@@ -69,7 +72,8 @@ odd-alike c q r n l e = go (eq-zero-or-pos r)
 pub cut-alike : (n k : ℕ) → Alike (2 ^ suc k) n (cutToOdd n k * 2 ^ k)
 cut-alike n k =
     subst (λ (y : ℕ). Alike y n (cutToOdd n k * 2 ^ k)) (sym (pow-succ' 2 k))
-    (subst (λ (y : ℕ). Alike (2 * 2 ^ k) n (y * 2 ^ k)) (sym (cut-is n k)) (odd-alike (2 ^ k) (n / 2 ^ k) (n % 2 ^ k) n (mod-lt n (pow-pos k)) (sym (div-add-mod' n (2 ^ k)))))
+    (subst (λ (y : ℕ). Alike (2 * 2 ^ k) n (y * 2 ^ k)) (sym (cut-is n k))
+    (odd-alike (2 ^ k) (n / 2 ^ k) (n % 2 ^ k) n (mod-lt n (pow-pos k)) (sym (div-add-mod' n (2 ^ k)))))
 
 -- nothing is cut off a multiple
 pub cut-exact : (a k : ℕ) → cutToOdd (a * 2 ^ k) k ≡ a
@@ -81,7 +85,8 @@ cut-scaled a d e =
     let c = 2 ^ e in
     let q : a * c / 2 ^ (d + e) ≡ a / 2 ^ d = ap (λ (y : ℕ). a * c / y) (pow-add 2 d e) ∙ mul-div-mul-right a (2 ^ d) (pow-pos e) in
     let r : a * c % 2 ^ (d + e) ≡ a % 2 ^ d * c =
-    ap (λ (y : ℕ). a * c % y) (pow-add 2 d e) ∙ mod-mul (a * c) (pow-pos d) (pow-pos e) ∙ ap₂ (λ (y z : ℕ). y % 2 ^ d * c + z) (mul-div-cancel a (pow-pos e)) (mul-mod-left a c) ∙ add-zero (a % 2 ^ d * c) in
+    ap (λ (y : ℕ). a * c % y) (pow-add 2 d e) ∙ mod-mul (a * c) (pow-pos d) (pow-pos e)
+    ∙ ap₂ (λ (y z : ℕ). y % 2 ^ d * c + z) (mul-div-cancel a (pow-pos e)) (mul-mod-left a c) ∙ add-zero (a % 2 ^ d * c) in
     cut-is (a * c) (d + e) ∙ ap₂ toOdd q r ∙ scaled (a / 2 ^ d) (a % 2 ^ d) c (pow-pos e) ∙ sym (cut-is a d)
   where
     scaled : (q r c : ℕ) → 0 < c → toOdd q (r * c) ≡ toOdd q r
@@ -105,7 +110,8 @@ cut-pos n k h = subst (λ (y : ℕ). 0 < y) (sym (cut-is n k)) (go (eq-zero-or-p
         pick (inr l) = l
 
     go : (n % 2 ^ k ≡ 0) ⊎ (0 < n % 2 ^ k) → 0 < toOdd (n / 2 ^ k) (n % 2 ^ k)
-    go (inl z) = subst (λ (y : ℕ). 0 < y) (sym (is-even (n / 2 ^ k) (n % 2 ^ k) z)) (some (n / 2 ^ k) (n / 2 ^ k * 2 ^ k) (n % 2 ^ k) z (div-add-mod' n (2 ^ k)) (λ y. ap (λ (x : ℕ). x * 2 ^ k) y ∙ zero-mul (2 ^ k)))
+    go (inl z) = subst (λ (y : ℕ). 0 < y) (sym (is-even (n / 2 ^ k) (n % 2 ^ k) z))
+        (some (n / 2 ^ k) (n / 2 ^ k * 2 ^ k) (n % 2 ^ k) z (div-add-mod' n (2 ^ k)) (λ y. ap (λ (x : ℕ). x * 2 ^ k) y ∙ zero-mul (2 ^ k)))
     go (inr l) = subst (λ (y : ℕ). 0 < y) (sym (is-odd (n / 2 ^ k) (n % 2 ^ k) l)) (odd-pos (n / 2 ^ k))
 
 -- how large it is
@@ -130,16 +136,19 @@ odd-ge q r j h = go (eq-zero-or-pos r)
     go (inr l) = subst (λ (y : ℕ). 2 ^ suc j ≤ y) (sym (is-odd q r l)) (even q (2 ^ j) (2 ^ suc j) (pow-succ' 2 j) h)
 
 pub cut-lt : (n k j : ℕ) → size n ≤ suc j + k → cutToOdd n k < 2 ^ suc j
-cut-lt n k j h = subst (λ (y : ℕ). y < 2 ^ suc j) (sym (cut-is n k)) (odd-lt (n / 2 ^ k) (n % 2 ^ k) j (shr-lt (suc j) k (lt-of-lt-of-le (size-lt n) (pow-mono h))))
+cut-lt n k j h = subst (λ (y : ℕ). y < 2 ^ suc j) (sym (cut-is n k)) (odd-lt (n / 2 ^ k) (n % 2 ^ k) j
+    (shr-lt (suc j) k (lt-of-lt-of-le (size-lt n) (pow-mono h))))
 
 pub cut-ge : (n k j : ℕ) → suc j + k < size n → 2 ^ suc j ≤ cutToOdd n k
-cut-ge n k j h = subst (λ (y : ℕ). 2 ^ suc j ≤ y) (sym (cut-is n k)) (odd-ge (n / 2 ^ k) (n % 2 ^ k) j (le-div-iff-mul-le (pow-pos k) .1 (le-trans (le-of-eq (sym (pow-add 2 (suc j) k))) (size-reaches n (suc j + k) h))))
+cut-ge n k j h = subst (λ (y : ℕ). 2 ^ suc j ≤ y) (sym (cut-is n k)) (odd-ge (n / 2 ^ k) (n % 2 ^ k) j
+    (le-div-iff-mul-le (pow-pos k) .1 (le-trans (le-of-eq (sym (pow-add 2 (suc j) k))) (size-reaches n (suc j + k) h))))
 
 -- ---- a rounding, by way of the cut: the two digits below the last one kept, the lower of them with all that is further down
 two-up : (x k : ℕ) → (x + 2 + k ≡ 1 + suc (x + k)) × (x + 2 + k ≡ 2 + (x + k))
 two-up x k = omega arith
 
-pub round-cut : (f : Format) (s : Bool) (n x k : ℕ) → k ≡ size n - (x + 2) - prec f → round f s n (2 ^ (x + 2 + low f)) ≡ units f s (closest (cutToOdd n (x + k)) 4) k
+pub round-cut : (f : Format) (s : Bool) (n x k : ℕ) → k ≡ size n - (x + 2) - prec f
+    → round f s n (2 ^ (x + 2 + low f)) ≡ units f s (closest (cutToOdd n (x + k)) 4) k
 round-cut f s n x k e =
     let z : size (n / 2 ^ (x + 2)) - prec f ≡ k = ap (λ (y : ℕ). y - prec f) (size-shr n (x + 2)) ∙ sym e in
     let t = cutToOdd n (x + k) in
@@ -149,5 +158,7 @@ round-cut f s n x k e =
     round-at f s n (x + 2)
     ∙ ap (λ (y : ℕ). units f s (closest n (2 ^ (x + 2 + y))) y) z
     ∙ ap (λ (y : ℕ). units f s y k)
-    (ap (closest n) d ∙ closest-alike c 1 n (t * 2 ^ (x + k)) (pow-pos (suc (x + k))) (zero-lt-suc 0) (cut-alike n (x + k)) ∙ ap (closest (t * 2 ^ (x + k))) (sym d ∙ four)
-    ∙ closest-same (t * 2 ^ (x + k)) (4 * 2 ^ (x + k)) t 4 (mul-pos (zero-lt-suc 3) (pow-pos (x + k))) (zero-lt-suc 3) (mul-assoc t (2 ^ (x + k)) 4 ∙ ap (λ (y : ℕ). t * y) (mul-comm (2 ^ (x + k)) 4)))
+    (ap (closest n) d ∙ closest-alike c 1 n (t * 2 ^ (x + k)) (pow-pos (suc (x + k))) (zero-lt-suc 0) (cut-alike n (x + k))
+    ∙ ap (closest (t * 2 ^ (x + k))) (sym d ∙ four)
+    ∙ closest-same (t * 2 ^ (x + k)) (4 * 2 ^ (x + k)) t 4 (mul-pos (zero-lt-suc 3) (pow-pos (x + k))) (zero-lt-suc 3)
+    (mul-assoc t (2 ^ (x + k)) 4 ∙ ap (λ (y : ℕ). t * y) (mul-comm (2 ^ (x + k)) 4)))

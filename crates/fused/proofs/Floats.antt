@@ -9,8 +9,9 @@ use borrow.Author.Tests.{eq-eqb, ne-eqb, eqb-true, eqb-false, lt-ltb, le-ltb}
 use lib.IntN.{pos}
 use lib.Dec.{T, leb, eqb, eqb·suc-zero}
 use lib.Pow.{pow-add, pow-pos}
-use lib.Ieee.{Float, nan, inf, fin, Format, binary64, prec, low, up, down, unlike, odd, neg, sum, add, mul, div, lt, eq, fits, isNan, hid, ones, top, ofFields, ofBits, toBits}
-use lib.Ieee.Fits.{up-pos, down-pos}
+use lib.Ieee.{Float, nan, inf, fin, Format, binary64, prec, low, up, down, unlike, odd, neg, sum, add, mul, div, lt, eq, fits, isNan, hid, ones, top}
+use lib.Ieee.{ofFields, ofBits, toBits}
+use lib.Ieee.Fits.{up-pos}
 use lib.Ieee.Bits.{ofBits-toBits}
 use lib.Ieee.Exact.{HasValue, odd-sign}
 use lib.Ieee.Scale.{finite}
@@ -20,11 +21,15 @@ use Rattle.numbers.proofs.Values as Values
 use Rattle.fused.specs.Steps.{isZero, ordinary}
 
 -- ---- the tests
-pub plus-inf : div binary64 (ofBits binary64 4607182418800017408) (ofBits binary64 0) ≡ inf false
+-- the bits of 1.0
+abbrev oneBits : ℕ
+oneBits = 0x3ff0000000000000
+
+pub plus-inf : div binary64 (ofBits binary64 oneBits) (ofBits binary64 0) ≡ inf false
 unfolding div ofBits
 plus-inf = refl
 
-pub minus-inf : div binary64 (neg (ofBits binary64 4607182418800017408)) (ofBits binary64 0) ≡ inf true
+pub minus-inf : div binary64 (neg (ofBits binary64 oneBits)) (ofBits binary64 0) ≡ inf true
 unfolding div ofBits neg
 minus-inf = refl
 
@@ -102,7 +107,8 @@ fields-are f x h = ofBits-toBits f x h
 
 low-field : (f : Format) (x : Float) (s : Bool) (k t : ℕ) → ofFields f s k t ≡ x → k ≡ 0 → HasValue x s (t * 2 ^ 0) (2 ^ low f)
 unfolding ofFields
-low-field f x s k t e z = subst (λ (v : Float). HasValue v s (t * 2 ^ 0) (2 ^ low f)) (ap (λ (y : ℕ). ofFields f s y t) (sym z) ∙ e) (odd-sign (prec f) s t 0 (low f))
+low-field f x s k t e z = subst (λ (v : Float). HasValue v s (t * 2 ^ 0) (2 ^ low f)) (ap (λ (y : ℕ). ofFields f s y t) (sym z) ∙ e)
+    (odd-sign (prec f) s t 0 (low f))
 
 high-field : (f : Format) (x : Float) (s : Bool) (k t : ℕ) → ofFields f s (suc k) t ≡ x → T (ordinary x)
     → (suc k ≡ ones f → ⊥) × HasValue x s ((hid f + t) * 2 ^ k) (2 ^ low f)
@@ -115,22 +121,27 @@ high-field f x s k t e o = go (eqb (suc k) (ones f)) refl
 
     go : (b : Bool) → eqb (suc k) (ones f) ≡ b → (suc k ≡ ones f → ⊥) × HasValue x s ((hid f + t) * 2 ^ k) (2 ^ low f)
     go true h =
-        absurd (special (eqb t 0) (subst (λ (v : Float). T (ordinary v)) (sym e ∙ ap (λ (b : Bool). cond b (cond (eqb t 0) (inf s) nan) (odd (prec f) s (hid f + t) k (low f))) h) o))
+        absurd (special (eqb t 0) (subst (λ (v : Float). T (ordinary v))
+        (sym e ∙ ap (λ (b : Bool). cond b (cond (eqb t 0) (inf s) nan) (odd (prec f) s (hid f + t) k (low f))) h) o))
     go false h = (
       eqb-false (suc k) (ones f) h,
       subst (λ (v : Float). HasValue v s ((hid f + t) * 2 ^ k) (2 ^ low f))
-          (sym (ap (λ (b : Bool). cond b (cond (eqb t 0) (inf s) nan) (odd (prec f) s (hid f + t) k (low f))) h) ∙ e) (odd-sign (prec f) s (hid f + t) k (low f)),
+          (sym (ap (λ (b : Bool). cond b (cond (eqb t 0) (inf s) nan) (odd (prec f) s (hid f + t) k (low f))) h) ∙ e)
+          (odd-sign (prec f) s (hid f + t) k (low f)),
     )
 
-pub low-fields : (f : Format) (x : Float) → T (fits f x) → toBits f x % top f / hid f ≡ 0 → HasValue x (leb (top f) (toBits f x)) (toBits f x % hid f * 2 ^ 0) (2 ^ low f)
+pub low-fields : (f : Format) (x : Float) → T (fits f x) → toBits f x % top f / hid f ≡ 0
+    → HasValue x (leb (top f) (toBits f x)) (toBits f x % hid f * 2 ^ 0) (2 ^ low f)
 low-fields f x h z = low-field f x (leb (top f) (toBits f x)) (toBits f x % top f / hid f) (toBits f x % hid f) (fields-are f x h) z
 
 pub high-fields : (f : Format) (x : Float) → T (fits f x) → T (ordinary x) → (k : ℕ) → toBits f x % top f / hid f ≡ suc k
     → (suc k ≡ ones f → ⊥) × HasValue x (leb (top f) (toBits f x)) ((hid f + toBits f x % hid f) * 2 ^ k) (2 ^ low f)
-high-fields f x h o k z = high-field f x (leb (top f) (toBits f x)) k (toBits f x % hid f) (ap (λ (y : ℕ). ofFields f (leb (top f) (toBits f x)) y (toBits f x % hid f)) (sym z) ∙ fields-are f x h) o
+high-fields f x h o k z = high-field f x (leb (top f) (toBits f x)) k (toBits f x % hid f)
+    (ap (λ (y : ℕ). ofFields f (leb (top f) (toBits f x)) y (toBits f x % hid f)) (sym z) ∙ fields-are f x h) o
 
 -- ---- F of ordinary numbers, each a count of the smallest value
-pub fused-ordinary : (f : Format) (x y z : Float) (r s t : Bool) (a b c : ℕ) → HasValue x r a (2 ^ low f) → HasValue y s b (2 ^ low f) → HasValue z t c (2 ^ low f)
+pub fused-ordinary : (f : Format) (x y z : Float) (r s t : Bool) (a b c : ℕ) → HasValue x r a (2 ^ low f) → HasValue y s b (2 ^ low f)
+    → HasValue z t c (2 ^ low f)
     → fused f x y z ≡ sum f (unlike r s) (a * b) t (c * 2 ^ low f) (2 ^ (low f + low f))
 fused-ordinary f x y z r s t a b c h k l =
     let L = 2 ^ low f in
@@ -214,7 +225,8 @@ not-negative nan s a c h o v = absurd o
 not-negative (inf t) s a c h o v = absurd o
 not-negative (fin false m e) s a c h o v = (refl, v .1)
 not-negative (fin true m e) s a c h o v =
-    absurd (true≢false (sym (lt-ltb 0 (m * up e * 1 + 0 * down e) (more (m * up e * 1) (0 * down e) (mul-pos (mul-pos (some m o) (up-pos e)) (zero-lt-suc 0)))) ∙ h))
+    absurd (true≢false (sym (lt-ltb 0 (m * up e * 1 + 0 * down e) (more (m * up e * 1) (0 * down e)
+    (mul-pos (mul-pos (some m o) (up-pos e)) (zero-lt-suc 0)))) ∙ h))
   where
     more : (p q : ℕ) → 0 < p → 0 < p + q
     more p q h = omega arith

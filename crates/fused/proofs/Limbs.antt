@@ -2,7 +2,8 @@
 -- Assumes nothing.
 use mathlib.Core.Path.{_≡_, refl, sym, ap, ap₂, _∙_, subst}
 use Prim.Native.Nat.{ℕ, suc, _+_, _-_, _*_, _/_, _%_, _≤_, _<_}
-use native.Mathlib.Nat.{add-assoc, add-comm, add-left-comm, mul-assoc, mul-comm, mul-left-comm, mul-add, add-mul, one-mul, suc-mul, mul-le-mul-right, div-add-mod', lt-of-not-le, le-of-lt, le-of-suc-le-suc}
+use native.Mathlib.Nat.{add-assoc, add-comm, add-left-comm, mul-assoc, mul-comm, mul-left-comm, mul-add, add-mul, one-mul, suc-mul, mul-le-mul-right}
+use native.Mathlib.Nat.{div-add-mod', lt-of-not-le, le-of-lt, le-of-suc-le-suc}
 use native.Mathlib.Omega.{arith}
 
 -- the columns, in any base P: sums and products are regrouped by `simp`
@@ -18,19 +19,29 @@ step₃ P a₀ a₁ b₁ r₀ q r = simp (add-mul, mul-assoc, mul-comm, mul-left
 step₄ : (P a₁ b₁ r₀ q q₁ r₁ : ℕ) → a₁ * b₁ * (P * P) + q * (P * P) + (q₁ * P + r₁) * P + r₀ ≡ (a₁ * b₁ + q + q₁) * (P * P) + (r₁ * P + r₀)
 step₄ P a₁ b₁ r₀ q q₁ r₁ = simp (add-mul, mul-assoc, mul-comm, mul-left-comm, add-assoc, add-comm, add-left-comm) refl
 
-columns : (P a₀ a₁ b₀ b₁ q₀ r₀ q r q₁ r₁ : ℕ) → a₀ * b₀ ≡ q₀ * P + r₀ → a₁ * b₀ + q₀ ≡ q * P + r → r + a₀ * b₁ ≡ q₁ * P + r₁ → (a₁ * P + a₀) * (b₁ * P + b₀) ≡ (a₁ * b₁ + q + q₁) * (P * P) + (r₁ * P + r₀)
+columns : (P a₀ a₁ b₀ b₁ q₀ r₀ q r q₁ r₁ : ℕ) → a₀ * b₀ ≡ q₀ * P + r₀ → a₁ * b₀ + q₀ ≡ q * P + r → r + a₀ * b₁ ≡ q₁ * P + r₁
+    → (a₁ * P + a₀) * (b₁ * P + b₀) ≡ (a₁ * b₁ + q + q₁) * (P * P) + (r₁ * P + r₀)
 columns P a₀ a₁ b₀ b₁ q₀ r₀ q r q₁ r₁ e₀ e e₁ =
     step₁ P a₀ a₁ b₀ b₁ ∙ ap (λ (x : ℕ). a₁ * b₁ * (P * P) + a₁ * b₀ * P + a₀ * b₁ * P + x) e₀
     ∙ step₂ P a₀ a₁ b₀ b₁ q₀ r₀ ∙ ap (λ (x : ℕ). a₁ * b₁ * (P * P) + x * P + a₀ * b₁ * P + r₀) e
     ∙ step₃ P a₀ a₁ b₁ r₀ q r ∙ ap (λ (x : ℕ). a₁ * b₁ * (P * P) + q * (P * P) + x * P + r₀) e₁
     ∙ step₄ P a₁ b₁ r₀ q q₁ r₁
 
-pub whole : (P u v : ℕ)
-    → (u / P * (v / P) + (u / P * (v % P) + u % P * (v % P) / P) / P + ((u / P * (v % P) + u % P * (v % P) / P) % P + u % P * (v / P)) / P) * (P * P) + (((u / P * (v % P) + u % P * (v % P) / P) % P + u % P * (v / P)) % P * P + u % P * (v % P) % P) ≡ u * v
+-- the columns of u * v, each with what is carried into it
+abbrev pub right : ℕ → ℕ → ℕ → ℕ
+right P u v = u % P * (v % P)
+
+abbrev pub inner : ℕ → ℕ → ℕ → ℕ
+inner P u v = u / P * (v % P) + right P u v / P
+
+abbrev pub outer : ℕ → ℕ → ℕ → ℕ
+outer P u v = inner P u v % P + u % P * (v / P)
+
+pub whole : (P u v : ℕ) → (u / P * (v / P) + inner P u v / P + outer P u v / P) * (P * P) + (outer P u v % P * P + right P u v % P) ≡ u * v
 whole P u v =
-    let w = u % P * (v % P) in
-    let t = u / P * (v % P) + w / P in
-    let x = t % P + u % P * (v / P) in
+    let w = right P u v in
+    let t = inner P u v in
+    let x = outer P u v in
     sym (columns P (u % P) (u / P) (v % P) (v / P) (w / P) (w % P) (t / P) (t % P) (x / P) (x % P)
     (sym (div-add-mod' w P)) (sym (div-add-mod' t P)) (sym (div-add-mod' x P)))
     ∙ ap₂ _*_ (div-add-mod' u P) (div-add-mod' v P)
@@ -70,7 +81,8 @@ lent B a x b y M h l m e = take (a * B) (b * B) ((a - b - 1) * B) (all ∙ ap (�
     take p q d i = omega arith
 
 pub above : (B a x b y : ℕ) → b * B + y ≤ a * B + x → x < B → b ≤ a
-above B a x b y h l = le-of-suc-le-suc (lt-of-not-le (λ (g : suc a ≤ b). no (a * B) (b * B) B x y h (subst (λ (z : ℕ). z ≤ b * B) (suc-mul a B) (mul-le-mul-right B g)) l))
+above B a x b y h l = le-of-suc-le-suc (lt-of-not-le (λ (g : suc a ≤ b). no (a * B) (b * B) B x y h
+    (subst (λ (z : ℕ). z ≤ b * B) (suc-mul a B) (mul-le-mul-right B g)) l))
   where
     no : (p q B x y : ℕ) → q + y ≤ p + x → p + B ≤ q → x < B → ⊥
     no p q B x y h g l = omega arith

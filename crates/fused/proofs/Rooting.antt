@@ -1,12 +1,14 @@
 -- The root of a format's number, from a whole root with four digits more than are kept, rounded to odd. Over any format. Assumes nothing.
 use mathlib.Core.Path.{_≡_, refl, sym, ap, ap₂, _∙_, subst}
 use mathlib.Core.Logic.{_⊎_, inl, inr}
-use Prim.Native.Nat.{ℕ, zero, suc, _+_, _-_, _*_, _/_, _%_, _^_, _≤_, _<_, compare, Ordering, Ordering·lt, Ordering·eq, Ordering·gt}
-use native.Mathlib.Nat.{le-refl, le-trans, le-of-eq, lt-of-lt-of-le, lt-of-le-of-lt, lt-of-not-le, not-le-of-lt, le-of-suc-le-suc, mul-comm, mul-assoc, mul-left-comm, mul-mul-mul-comm, mul-pos, mul-le-mul, mul-le-mul-right, mul-lt-mul-of-pos-right, mul-div-mul-right, mul-add, add-mul, mul-one, one-mul, pow-succ', zero-lt-suc, div-one, eq-zero-or-pos, le-div-iff-mul-le, div-lt-iff-lt-mul}
+use Prim.Native.Nat.{ℕ, suc, _+_, _-_, _*_, _/_, _%_, _^_, _≤_, _<_, compare, Ordering, Ordering·lt, Ordering·eq, Ordering·gt}
+use native.Mathlib.Nat.{le-refl, le-trans, le-of-eq, lt-of-lt-of-le, lt-of-le-of-lt, mul-comm, mul-assoc, mul-left-comm, mul-mul-mul-comm, mul-pos}
+use native.Mathlib.Nat.{mul-le-mul-right, mul-lt-mul-of-pos-right, mul-div-mul-right, mul-add, add-mul, mul-one, one-mul, pow-succ', zero-lt-suc, div-one}
+use native.Mathlib.Nat.{eq-zero-or-pos, le-div-iff-mul-le, div-lt-iff-lt-mul}
 use native.Mathlib.Omega.{arith}
 use mathlib.Core.Bool.{false}
 use lib.Arith.{digits-mod}
-use lib.Pow.{pow-add, pow-pos, pow-mono}
+use lib.Pow.{pow-add, pow-pos}
 use lib.Ieee.{Format, prec, emax, low, size, nearest, units, round}
 use lib.Ieee.Digits.{size-lt, size-le}
 use lib.Ieee.Fits.{two, reach}
@@ -115,7 +117,8 @@ module _ (h rest t : ℕ) (e : h * h + rest ≡ t) (l : rest ≤ 2 * h) where
 
           cases : (o : Ordering) → Cmp o (h % 16) 8 → compare (2 * h % 32 * 2) 32 ≡ compare t ((16 * (h / 16) + 8) * (16 * (h / 16) + 8))
           cases Ordering·lt k = lower (2 * h) (omega (arith, mod-even h)) (omega arith)
-          cases Ordering·eq k = cmp-eq (2 * h % 32 * 2) 32 (omega (arith, mod-even h)) ∙ sym (cmp-eq t ((16 * (h / 16) + 8) * (16 * (h / 16) + 8)) (level (omega arith)))
+          cases Ordering·eq k = cmp-eq (2 * h % 32 * 2) 32 (omega (arith, mod-even h))
+              ∙ sym (cmp-eq t ((16 * (h / 16) + 8) * (16 * (h / 16) + 8)) (level (omega arith)))
           cases Ordering·gt k = upper (2 * h) (omega (arith, mod-even h)) (omega arith)
       go (inr z) = ap (λ (y : ℕ). compare (y % 32 * 2) 32) (is-odd (2 * h) rest z) ∙ cases (compare (h % 16) 8) (cmp (h % 16) 8)
         where
@@ -127,7 +130,8 @@ module _ (h rest t : ℕ) (e : h * h + rest ≡ t) (l : rest ≤ 2 * h) where
 
           cases : (o : Ordering) → Cmp o (h % 16) 8 → compare ((2 * h / 2 * 2 + 1) % 32 * 2) 32 ≡ compare t ((16 * (h / 16) + 8) * (16 * (h / 16) + 8))
           cases Ordering·lt k = lower (2 * h / 2 * 2 + 1) (omega (arith, mod-odd h)) (omega arith)
-          cases Ordering·eq k = cmp-gt ((2 * h / 2 * 2 + 1) % 32 * 2) 32 (omega (arith, mod-odd h)) ∙ sym (cmp-gt t ((16 * (h / 16) + 8) * (16 * (h / 16) + 8)) (above (omega arith)))
+          cases Ordering·eq k = cmp-gt ((2 * h / 2 * 2 + 1) % 32 * 2) 32 (omega (arith, mod-odd h))
+              ∙ sym (cmp-gt t ((16 * (h / 16) + 8) * (16 * (h / 16) + 8)) (above (omega arith)))
           cases Ordering·gt k = upper (2 * h / 2 * 2 + 1) (omega (arith, mod-odd h)) (omega arith)
 
   quotient : toOdd (2 * h) rest / 32 ≡ h / 16
@@ -175,7 +179,8 @@ marked-size h rest j lo hi = go (eq-zero-or-pos rest)
         ∙ size-exact (suc j) (2 * h) (low-even h (2 ^ j) (2 ^ suc j) (pow-succ' 2 j) lo) (high-even h (2 ^ suc j) (2 ^ suc (suc j)) (pow-succ' 2 (suc j)) hi)
     go (inr z) =
         ap size (is-odd (2 * h) rest z)
-        ∙ size-exact (suc j) (2 * h / 2 * 2 + 1) (low-odd h (2 ^ j) (2 ^ suc j) (pow-succ' 2 j) lo) (high-odd h (2 ^ suc j) (2 ^ suc (suc j)) (pow-succ' 2 (suc j)) hi)
+        ∙ size-exact (suc j) (2 * h / 2 * 2 + 1) (low-odd h (2 ^ j) (2 ^ suc j) (pow-succ' 2 j) lo)
+        (high-odd h (2 ^ suc j) (2 ^ suc (suc j)) (pow-succ' 2 (suc j)) hi)
 
 some-digits : (s n : ℕ) → size s ≡ suc n → 0 < s
 some-digits s n e = go (eq-zero-or-pos s)
@@ -220,15 +225,22 @@ rooted f t s j lo hi r =
     let z : size s ≡ suc (suc (p + 3)) = marked-digits t s (p + 3) lo hi r in
     let w = s * 2 ^ (j + (x - 1)) in
     let zk : size (w / 2 ^ x) - p ≡ k =
-    ap (λ (y : ℕ). y - p) (size-shr w x ∙ ap (λ (y : ℕ). y - x) (size-shl s (j + (x - 1)) (some-digits s (suc (p + 3)) z) ∙ ap (λ (y : ℕ). y + (j + (x - 1))) z)) ∙ kept p j (low f) in
+    ap (λ (y : ℕ). y - p) (size-shr w x ∙ ap (λ (y : ℕ). y - x) (size-shl s (j + (x - 1)) (some-digits s (suc (p + 3)) z)
+    ∙ ap (λ (y : ℕ). y + (j + (x - 1))) z)) ∙ kept p j (low f) in
     let G = 4 ^ j in
     let four : 4 ^ k ≡ 256 * G = pow-add 4 j 4 ∙ mul-comm G 256 in
-    let tz : (2 * (p + 3) < size t) × (size t ≤ 2 * suc (p + 3)) = (pow-lt-back (2 * (p + 3)) (size t) (lt-of-le-of-lt lo (size-lt t)), size-le t (2 * suc (p + 3)) hi) in
+    let tz : (2 * (p + 3) < size t) × (size t ≤ 2 * suc (p + 3)) = (
+      pow-lt-back (2 * (p + 3)) (size t) (lt-of-le-of-lt lo (size-lt t)),
+      size-le t
+          (2 * suc (p + 3)) hi,
+    ) in
     let sz : size (t * G) ≡ size t + 2 * j = ap (λ (y : ℕ). size (t * y)) (four-pow j) ∙ size-shl t (2 * j) (lt-of-lt-of-le (pow-pos (2 * (p + 3))) lo) in
-    let nk : (size (t * G / 1) + 1) / 2 - p ≡ k = ap (λ (y : ℕ). (size y + 1) / 2 - p) (div-one (t * G)) ∙ ap (λ (y : ℕ). (y + 1) / 2 - p) sz ∙ half (size t) j p (tz .0) (tz .1) in
+    let nk : (size (t * G / 1) + 1) / 2 - p ≡ k = ap (λ (y : ℕ). (size y + 1) / 2 - p) (div-one (t * G)) ∙ ap (λ (y : ℕ). (y + 1) / 2 - p) sz
+    ∙ half (size t) j p (tz .0) (tz .1) in
     let cut : t * G / (1 * 4 ^ k) ≡ t / 256 = ap (λ (y : ℕ). t * G / y) (one-mul (4 ^ k) ∙ four) ∙ mul-div-mul-right t 256 (four-pos j) in
     let nq : wholeRoot p (t * G / (1 * 4 ^ k)) ≡ q =
-    ap (wholeRoot p) cut ∙ root-unique (wholeRoot-root p (t / 256) (div-lt-iff-lt-mul (zero-lt-suc 255) .1 (subst (λ (y : ℕ). t < y) (room p) hi))) (root-cut t h 16 (zero-lt-suc 15) R) in
+    ap (wholeRoot p) cut ∙ root-unique (wholeRoot-root p (t / 256) (div-lt-iff-lt-mul (zero-lt-suc 255) .1 (subst (λ (y : ℕ). t < y) (room p) hi)))
+    (root-cut t h 16 (zero-lt-suc 15) R) in
     let O = (2 * q + 1) * (2 * q + 1) in
     let order : compare t ((16 * q + 8) * (16 * q + 8)) ≡ compare (t * G * 4) (O * (1 * 4 ^ k)) =
     cmp-scale t ((16 * q + 8) * (16 * q + 8)) (G * 4) (mul-pos (four-pos j) (zero-lt-suc 3))
@@ -287,7 +299,8 @@ module _ (f : Format) (c m e n g s : ℕ) (C : 2 * c ≡ prec f + 7) (S : Square
       ap (λ (y : ℕ). round f false (s * 2 ^ y) (scale f)) (shift g c (prec f) (low f) C far (short f))
       ∙ rooted f (n * 4 ^ c) s (g - c) least most R
       ∙ rootOf-same f (n * 4 ^ c * 4 ^ (g - c)) 1 (m * 2 ^ e * 4 ^ low f) (2 ^ low f) (zero-lt-suc 0) (pow-pos (low f))
-      (ap (λ (y : ℕ). y * 2 ^ low f) (mul-assoc n (4 ^ c) (4 ^ (g - c)) ∙ ap (λ (y : ℕ). n * y) (sym (pow-add 4 c (g - c)) ∙ ap (λ (y : ℕ). 4 ^ y) (back g c far)) ∙ S .same
+      (ap (λ (y : ℕ). y * 2 ^ low f) (mul-assoc n (4 ^ c) (4 ^ (g - c))
+      ∙ ap (λ (y : ℕ). n * y) (sym (pow-add 4 c (g - c)) ∙ ap (λ (y : ℕ). 4 ^ y) (back g c far)) ∙ S .same
       ∙ ap (λ (y : ℕ). m * y) (pow-add 2 e (low f)) ∙ sym (mul-assoc m (2 ^ e) (2 ^ low f)))
       ∙ mul-assoc (m * 2 ^ e) (2 ^ low f) (2 ^ low f) ∙ ap (λ (y : ℕ). m * 2 ^ e * y) (sym (four-square (low f))) ∙ sym (mul-one (m * 2 ^ e * 4 ^ low f)))
     where

@@ -1,5 +1,6 @@
 -- Rounding to odd (Boldo and Melquiond): a number is cut, and the last digit that is left is made 1 where anything was cut off.
--- What is rounded to odd two digits or more below the place of a later rounding to nearest rounds there as the whole number does. Definitions only. Assumes nothing.
+-- What is rounded to odd two digits or more below the place of a later rounding to nearest rounds there as the whole number does.
+-- Definitions only. Assumes nothing.
 use Prim.Native.Nat.{ℕ, _+_, _*_, _/_, _%_, _^_}
 use mathlib.Core.Bool.{cond}
 use lib.Dec.{eqb}

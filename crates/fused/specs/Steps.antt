@@ -1,9 +1,9 @@
 -- What the inner functions take and hand on, over a format f: each record's bounds are those that the next step needs. Definitions only. Assumes nothing.
 use mathlib.Core.Path.{_≡_}
-use Prim.Native.Nat.{ℕ, suc, _+_, _-_, _*_, _%_, _^_, _≤_, _<_}
+use Prim.Native.Nat.{ℕ, suc, _+_, _*_, _%_, _^_, _≤_, _<_}
 use mathlib.Core.Bool.{Bool, false, not}
 use lib.Dec.{eqb}
-use lib.Ieee.{Float, nan, inf, fin, Format, prec, emax, low, hid}
+use lib.Ieee.{Float, nan, inf, fin, Format, prec, emax, low, hid, unlike, sum}
 use Rattle.fused.specs.Odd.{toOdd}
 
 -- ---- tests: a zero of either sign; and a number that is finite and not zero
@@ -59,6 +59,10 @@ pub record Terms (f : Format) (w a m b : ℕ) : Type 0 where
   pub long' : low f + 6 < b → 2 ^ 62 ≤ m
   pub near : a < far f
   pub near' : b < far f
+
+-- the sum of a product and a term, each number m * 2 ^ e smallest values: both are counted in the smallest value's square
+abbrev pub multiplyAdd : Format → Bool → ℕ → ℕ → Bool → ℕ → ℕ → Bool → ℕ → ℕ → Float
+multiplyAdd f s m e t n d u p g = sum f (unlike s t) (m * 2 ^ e * (n * 2 ^ d)) u (p * 2 ^ g * 2 ^ low f) (2 ^ (low f + low f))
 
 -- h is the whole root of t, and s is 2 * h, rounded to odd by what is left over
 pub record Rooted (t s : ℕ) : Type 0 where

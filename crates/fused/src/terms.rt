@@ -1,4 +1,5 @@
 // x * y + z of ordinary numbers: the two terms brought to one unit and added or subtracted, exactly but for digits that rounding to odd may stand for.
+use crate::format::LOW;
 use crate::number::Number;
 use crate::odd::shift_to_odd;
 use crate::odd::to_odd;
@@ -7,9 +8,9 @@ use crate::wide;
 use crate::wide::Wide;
 ghost use mathlib.Core.Path.{_≡_};
 ghost use Prim.Native.Nat.{_+_, _*_, _^_, _<_};
-ghost use lib.Ieee.{binary64, low, size, round, sum, unlike};
+ghost use lib.Ieee.{binary64, size, round, sum};
 ghost use Rattle.fused.specs.Odd.{cutToOdd};
-ghost use Rattle.fused.specs.Steps.{limbs, scale, far, Fields, Terms};
+ghost use Rattle.fused.specs.Steps.{limbs, scale, far, Fields, Terms, multiplyAdd};
 
 // s * 2^e.
 struct Scaled {
@@ -97,18 +98,28 @@ fn aligned(p: bool, w: Wide, a: u64, t: bool, m: u64, b: u64) -> f64
     }
 }
 
-// x * y + z, rounded once. The significands are moved up so that the lower limb of the product is full and no wide shift is needed.
+// The significands are moved up, a factor's by 11 digits and the addend's by 10: the product's lower limb is then full, and no wide shift is needed.
+// What the exponents count from is the working unit, with 16 digits to spare.
+const FACTOR_UP: u64 = 2048;
+
+const FACTOR_BELOW: u64 = 5;
+
+const TERM_UP: u64 = 1024;
+
+const TERM_BELOW: u64 = LOW + 6;
+
+// x * y + z, rounded once.
 pub(crate) fn multiply_add(x: Number, y: Number, z: Number) -> f64
     requires { ⌜ Fields binary64 (x .m) (x .e) × Fields binary64 (y .m) (y .e) × Fields binary64 (z .m) (z .e) ⌝ }
-    ensures { λ r. ⌜ r ≡ sum binary64 (unlike (x .neg) (y .neg)) (x .m * 2 ^ x .e * (y .m * 2 ^ y .e)) (z .neg) (z .m * 2 ^ z .e * 2 ^ low binary64) (2 ^ (low binary64 + low binary64)) ⌝ }
+    ensures { λ r. ⌜ r ≡ multiplyAdd binary64 (x .neg) (x .m) (x .e) (y .neg) (y .m) (y .e) (z .neg) (z .m) (z .e) ⌝ }
 {
-    let w = wide::multiply(x.m * 2048, y.m);
+    let w = wide::multiply(x.m * FACTOR_UP, y.m);
     aligned(
         x.neg != y.neg,
         w,
-        x.e + y.e + 5,
+        x.e + y.e + FACTOR_BELOW,
         z.neg,
-        z.m * 1024,
-        z.e + 1080,
+        z.m * TERM_UP,
+        z.e + TERM_BELOW,
     )
 }

@@ -2,18 +2,17 @@
 -- rounding made q one digit longer. Assumes nothing.
 use mathlib.Core.Path.{_≡_, refl, sym, ap, ap₂, _∙_, subst}
 use mathlib.Core.Logic.{_⊎_, inl, inr}
-use Prim.Native.Nat.{ℕ, zero, suc, _+_, _-_, _*_, _/_, _%_, _^_, _≤_, _<_}
-use native.Mathlib.Nat.{le-trans, le-of-eq, le-refl, lt-of-lt-of-le, lt-of-le-of-lt, lt-of-mul-lt-mul-right, mul-one, mul-comm, mul-assoc, mul-le-mul-right, mul-lt-mul-of-pos-right, mul-div-cancel, div-one, suc-mul, add-assoc, add-zero, pow-succ', eq-or-lt-of-le, eq-zero-or-pos, zero-mul}
+use Prim.Native.Nat.{ℕ, suc, _+_, _-_, _*_, _/_, _^_, _≤_, _<_}
+use native.Mathlib.Nat.{le-trans, le-of-eq, le-refl, lt-of-lt-of-le, lt-of-le-of-lt, lt-of-mul-lt-mul-right, mul-one, mul-comm, mul-assoc, mul-le-mul-right}
+use native.Mathlib.Nat.{mul-div-cancel, div-one, suc-mul, add-assoc, pow-succ', eq-or-lt-of-le, eq-zero-or-pos, zero-mul}
 use native.Mathlib.Omega.{arith}
 use mathlib.Core.Bool.{Bool, true, false, not, cond}
-use lib.IntN.{ℤ, pos}
 use lib.Dec.{T, ltb, ltb→lt, nltb→le}
 use lib.Pow.{pow-add, pow-pos, pow-mono, pow-lt, shl-lt}
 use borrow.Author.Tests.{lt-ltb, le-ltb}
-use lib.Count.{trailingZeros}
-use lib.Ieee.{Float, nan, inf, fin, Format, prec, emax, low, up, down, minus, size, odd, units, fits, hid, ones, top, ofBits, toBits}
-use lib.Ieee.Digits.{odd-val, size-le}
-use lib.Ieee.Fits.{odd-fits, inf-fits, two, reach, two-le-pos, down-pos}
+use lib.Ieee.{Float, nan, inf, fin, Format, prec, emax, low, down, size, odd, units, fits, hid, ones, top, ofBits, toBits}
+use lib.Ieee.Digits.{size-le}
+use lib.Ieee.Fits.{odd-fits, inf-fits, two, down-pos}
 use lib.Ieee.Bits.{ofBits-toBits}
 use lib.Ieee.Exact.{HasValue, units-val}
 use Rattle.numbers.proofs.Sizes.{size-exact}
@@ -44,7 +43,8 @@ mid f q k lo hi =
     let z : size (q * 2 ^ k) - p ≡ k = ap (λ (x : ℕ). x - p) (size-exact (p - 1 + k) (q * 2 ^ k) L H) ∙ d .0 in
     let twice : 2 ^ p ≡ h + h = ap (λ (x : ℕ). 2 ^ x) (sym (d .2)) ∙ pow-succ' 2 (p - 1) ∙ dbl h in
     let one : suc k * h ≤ k * h + q = le-trans (le-of-eq (suc-mul k h)) (grow (k * h) h q lo) in
-    let two' : k * h + q < suc (suc k) * h = subst (λ (x : ℕ). k * h + q < x) (sym (suc-mul (suc k) h ∙ ap (λ (x : ℕ). x + h) (suc-mul k h))) (fit (k * h) h q (2 ^ p) twice hi) in
+    let two' : k * h + q < suc (suc k) * h = subst (λ (x : ℕ). k * h + q < x) (sym (suc-mul (suc k) h ∙ ap (λ (x : ℕ). x + h) (suc-mul k h)))
+    (fit (k * h) h q (2 ^ p) twice hi) in
     record {
       written = ap (λ (x : ℕ). x * h + q * 2 ^ k / 2 ^ x) z ∙ ap (λ (x : ℕ). k * h + x) (mul-div-cancel q (pow-pos k));
       fine = λ b. lt-of-lt-of-le H (pow-mono (room p (emax f) k (two f) (lt-of-mul-lt-mul-right h (lt-of-le-of-lt one b))));
@@ -69,7 +69,8 @@ tiny f q hi =
     record {
       written = ap (λ (x : ℕ). x * hid f + q * 2 ^ 0 / 2 ^ x) z ∙ ap (λ (x : ℕ). 0 * hid f + x) (div-one (q * 2 ^ 0) ∙ e);
       fine = λ b. subst (λ (x : ℕ). x < 2 ^ (low f + suc (emax f))) (sym e) (lt-of-lt-of-le hi (pow-mono (inside (prec f) (emax f) (two f))));
-      over = λ b. absurd (no q (hid f) (ones f * hid f) (0 * hid f) hi (le-trans (le-of-eq (sym (one-mul' (hid f)))) (mul-le-mul-right (hid f) (le-one (2 * emax f)))) (zero-mul (hid f)) b);
+      over = λ b. absurd (no q (hid f) (ones f * hid f) (0 * hid f) hi
+          (le-trans (le-of-eq (sym (one-mul' (hid f)))) (mul-le-mul-right (hid f) (le-one (2 * emax f)))) (zero-mul (hid f)) b);
     }
   where
     none : (z p : ℕ) → z ≤ p - 1 → z - p ≡ 0
@@ -112,7 +113,8 @@ shape f q k hi lo = go (eq-or-lt-of-le hi)
     go : (q ≡ 2 ^ prec f) ⊎ (q < 2 ^ prec f) → Shape f (q * 2 ^ k) (k * hid f + q)
     go (inl e) =
         subst (λ (x : ℕ). Shape f (x * 2 ^ k) (k * hid f + x)) (sym e)
-        (subst (λ (x : ℕ). Shape f x (k * hid f + 2 ^ prec f)) count (subst (λ (x : ℕ). Shape f (hid f * 2 ^ suc k) x) bits (mid f (hid f) (suc k) (le-refl (hid f)) small)))
+        (subst (λ (x : ℕ). Shape f x (k * hid f + 2 ^ prec f)) count (subst (λ (x : ℕ). Shape f (hid f * 2 ^ suc k) x) bits
+        (mid f (hid f) (suc k) (le-refl (hid f)) small)))
     go (inr l) = choose (ltb q (hid f)) (ltb→lt q (hid f)) (nltb→le q (hid f))
       where
         choose : (b : Bool) → (T b → q < hid f) → (T (not b) → hid f ≤ q) → Shape f (q * 2 ^ k) (k * hid f + q)
@@ -127,23 +129,29 @@ shape f q k hi lo = go (eq-or-lt-of-le hi)
         choose false a c = mid f q k (c tt) l
 
 -- ---- what is written
-pub toBits-val : (f : Format) (v : Float) (s : Bool) (n : ℕ) → HasValue v s n (2 ^ low f) → toBits f v ≡ cond s (top f) 0 + ((size n - prec f) * hid f + n / 2 ^ (size n - prec f))
+pub toBits-val : (f : Format) (v : Float) (s : Bool) (n : ℕ) → HasValue v s n (2 ^ low f)
+    → toBits f v ≡ cond s (top f) 0 + ((size n - prec f) * hid f + n / 2 ^ (size n - prec f))
 unfolding toBits
 toBits-val f nan s n h = absurd h
 toBits-val f (inf t) s n h = absurd h
 toBits-val f (fin t m e) s n h =
-    ap₂ (λ (b : Bool) (x : ℕ). cond b (top f) 0 + (size x - prec f) * hid f + x / 2 ^ (size x - prec f)) (h .0) (ap (λ (x : ℕ). x / down e) (h .1) ∙ mul-div-cancel n (down-pos e))
+    ap₂ (λ (b : Bool) (x : ℕ). cond b (top f) 0 + (size x - prec f) * hid f + x / 2 ^ (size x - prec f)) (h .0)
+    (ap (λ (x : ℕ). x / down e) (h .1) ∙ mul-div-cancel n (down-pos e))
     ∙ add-assoc (cond s (top f) 0) ((size n - prec f) * hid f) (n / 2 ^ (size n - prec f))
+
+pub bits-of : (f : Format) (v : Float) (s : Bool) (q k : ℕ) → q ≤ 2 ^ prec f → (0 < k → hid f ≤ q) → HasValue v s (q * 2 ^ k) (2 ^ low f)
+    → toBits f v ≡ cond s (top f) 0 + (k * hid f + q)
+bits-of f v s q k hi lo h = toBits-val f v s (q * 2 ^ k) h ∙ ap (λ (x : ℕ). cond s (top f) 0 + x) (shape f q k hi lo .written)
 
 toBits-inf : (f : Format) (s : Bool) → toBits f (inf s) ≡ cond s (top f) 0 + ones f * hid f
 unfolding toBits
 toBits-inf f s = refl
 
-units-odd : (f : Format) (s : Bool) (q k : ℕ) → q * 2 ^ k < 2 ^ (low f + suc (emax f)) → units f s q k ≡ odd (suc (prec f)) s q k (low f)
+pub units-odd : (f : Format) (s : Bool) (q k : ℕ) → q * 2 ^ k < 2 ^ (low f + suc (emax f)) → units f s q k ≡ odd (suc (prec f)) s q k (low f)
 unfolding units
 units-odd f s q k h = ap (λ (b : Bool). cond b (odd (suc (prec f)) s q k (low f)) (inf s)) (lt-ltb (q * 2 ^ k) (2 ^ (low f + suc (emax f))) h)
 
-units-inf : (f : Format) (s : Bool) (q k : ℕ) → 2 ^ (low f + suc (emax f)) ≤ q * 2 ^ k → units f s q k ≡ inf s
+pub units-inf : (f : Format) (s : Bool) (q k : ℕ) → 2 ^ (low f + suc (emax f)) ≤ q * 2 ^ k → units f s q k ≡ inf s
 unfolding units
 units-inf f s q k h = ap (λ (b : Bool). cond b (odd (suc (prec f)) s q k (low f)) (inf s)) (le-ltb (q * 2 ^ k) (2 ^ (low f + suc (emax f))) h)
 
@@ -152,8 +160,9 @@ module _ (f : Format) (s : Bool) (q k : ℕ) (hi : q ≤ 2 ^ prec f) (lo : 0 < k
   bits-under b =
       let z = shape f q k hi lo in
       let u : units f s q k ≡ odd (suc (prec f)) s q k (low f) = units-odd f s q k (z .fine b) in
-      let t : T (fits f (units f s q k)) = subst (λ (v : Float). T (fits f v)) (sym u) (odd-fits f (suc (prec f)) s q k (lt-of-le-of-lt hi (pow-lt (le-refl (suc (prec f))))) hi (z .fine b)) in
-      let w : toBits f (units f s q k) ≡ cond s (top f) 0 + (k * hid f + q) = toBits-val f (units f s q k) s (q * 2 ^ k) (units-val f s q k (z .fine b)) ∙ ap (λ (x : ℕ). cond s (top f) 0 + x) (z .written) in
+      let t : T (fits f (units f s q k)) = subst (λ (v : Float). T (fits f v)) (sym u)
+      (odd-fits f (suc (prec f)) s q k (lt-of-le-of-lt hi (pow-lt (le-refl (suc (prec f))))) hi (z .fine b)) in
+      let w : toBits f (units f s q k) ≡ cond s (top f) 0 + (k * hid f + q) = bits-of f (units f s q k) s q k hi lo (units-val f s q k (z .fine b)) in
       ap (ofBits f) (sym w) ∙ ofBits-toBits f (units f s q k) t
 
   pub bits-over : ones f * hid f ≤ k * hid f + q → ofBits f (cond s (top f) 0 + ones f * hid f) ≡ units f s q k

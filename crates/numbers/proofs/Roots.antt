@@ -1,7 +1,9 @@
 -- Whole roots, and that the root of a format sees only the value of its operand: equal fractions have the same root. Assumes nothing.
 use mathlib.Core.Path.{_≡_, refl, sym, ap, ap₂, _∙_, subst}
 use Prim.Native.Nat.{ℕ, zero, suc, _+_, _-_, _*_, _/_, _^_, _≤_, _<_, zero-le, compare}
-use native.Mathlib.Nat.{mul-mul-mul-comm, le-refl, le-trans, le-of-eq, lt-of-le-of-lt, lt-of-not-le, not-le-of-lt, le-antisymm, le-of-suc-le-suc, mul-comm, mul-assoc, mul-left-comm, mul-right-comm, mul-pos, zero-mul, mul-le-mul, le-div-iff-mul-le, div-lt-iff-lt-mul, pow-suc, pow-succ', zero-lt-suc}
+use native.Mathlib.Nat.{mul-mul-mul-comm, le-refl, le-trans, le-of-eq, lt-of-le-of-lt, lt-of-not-le, not-le-of-lt, le-antisymm, le-of-suc-le-suc, mul-comm}
+use native.Mathlib.Nat.{mul-assoc, mul-left-comm, mul-right-comm, mul-pos, zero-mul, mul-le-mul, le-div-iff-mul-le, div-lt-iff-lt-mul, pow-suc, pow-succ'}
+use native.Mathlib.Nat.{zero-lt-suc}
 use native.Mathlib.Omega.{arith}
 use mathlib.Core.Bool.{Bool, true, false, not, cond, true≢false}
 use lib.Dec.{T, leb, leb→le, nleb→lt}
@@ -36,7 +38,7 @@ root-least n r p x l =
 pub root-most : (n r p : ℕ) → IsRoot n r → n < p * p → r < p
 root-most n r p x l = lt-of-not-le (λ (g : p ≤ r). not-le-of-lt l (le-trans (square-mono g) (x .under)))
 
-twice-square : (s : ℕ) → 2 * s * (2 * s) ≡ s * s * 4
+pub twice-square : (s : ℕ) → 2 * s * (2 * s) ≡ s * s * 4
 twice-square s = mul-mul-mul-comm 2 s 2 s ∙ mul-comm 4 (s * s)
 
 next : (s : ℕ) → suc (suc (2 * s)) ≡ 2 * suc s
@@ -58,7 +60,8 @@ digit n s ih = go (leb (suc (2 * s) * suc (2 * s)) n) (leb→le (suc (2 * s) * s
 pub wholeRoot-root : (d n : ℕ) → n < 4 ^ d → IsRoot n (wholeRoot d n)
 unfolding wholeRoot
 wholeRoot-root zero n h = record { under = zero-le; over = h }
-wholeRoot-root (suc d) n h = digit n (wholeRoot d (n / 4)) (wholeRoot-root d (n / 4) (div-lt-iff-lt-mul (zero-lt-suc 3) .1 (subst (λ (y : ℕ). n < y) (pow-suc 4 d) h)))
+wholeRoot-root (suc d) n h = digit n (wholeRoot d (n / 4)) (wholeRoot-root d (n / 4)
+    (div-lt-iff-lt-mul (zero-lt-suc 3) .1 (subst (λ (y : ℕ). n < y) (pow-suc 4 d) h)))
 
 -- ---- powers of four
 pub four-pow : (j : ℕ) → 4 ^ j ≡ 2 ^ (2 * j)
@@ -112,10 +115,12 @@ pub root-at : (f : Format) (x : Float) (a A : ℕ) → 0 < A → 0 < a → HasVa
 unfolding root rootOf
 root-at f nan a A P Q h = absurd h
 root-at f (inf s) a A P Q h = absurd h
-root-at f (fin s zero e) a A P Q h = absurd (no (0 * up e * A) (a * down e) (ap (λ (y : ℕ). y * A) (zero-mul (up e)) ∙ zero-mul A) (h .1) (mul-pos Q (down-pos e)))
+root-at f (fin s zero e) a A P Q h = absurd (no (0 * up e * A) (a * down e) (ap (λ (y : ℕ). y * A) (zero-mul (up e)) ∙ zero-mul A) (h .1)
+    (mul-pos Q (down-pos e)))
   where
     no : (x y : ℕ) → x ≡ 0 → x ≡ y → 0 < y → ⊥
     no x y u v w = omega arith
 root-at f (fin true (suc m) e) a A P Q h = absurd (true≢false (h .0))
 root-at f (fin false (suc m) e) a A P Q h =
-    rootOf-same f (suc m * up e * 4 ^ low f) (down e) (a * 4 ^ low f) A (down-pos e) P (mul-right-comm (suc m * up e) (4 ^ low f) A ∙ ap (λ (y : ℕ). y * 4 ^ low f) (h .1) ∙ mul-right-comm a (down e) (4 ^ low f))
+    rootOf-same f (suc m * up e * 4 ^ low f) (down e) (a * 4 ^ low f) A (down-pos e) P
+    (mul-right-comm (suc m * up e) (4 ^ low f) A ∙ ap (λ (y : ℕ). y * 4 ^ low f) (h .1) ∙ mul-right-comm a (down e) (4 ^ low f))

@@ -60,16 +60,20 @@ pub sum-scaled : (f : Format) (s : Bool) (a : ℕ) (t : Bool) (b c g : ℕ) → 
 sum-scaled f s a t b c g C G = go (either (Bool·beq s t))
   where
     go : (Bool·beq s t ≡ true) ⊎ (Bool·beq s t ≡ false) → sum f s a t b c ≡ sum f s (a * g) t (b * g) (c * g)
-    go (inl e) = sum-plus f s a t b c e ∙ round-scaled f s (a + b) c g C G ∙ ap (λ (y : ℕ). round f s y (c * g)) (add-mul a b g) ∙ sym (sum-plus f s (a * g) t (b * g) (c * g) e)
+    go (inl e) = sum-plus f s a t b c e ∙ round-scaled f s (a + b) c g C G ∙ ap (λ (y : ℕ). round f s y (c * g)) (add-mul a b g)
+        ∙ sym (sum-plus f s (a * g) t (b * g) (c * g) e)
     go (inr e) = by (compare a b) (cmp a b)
       where
         by : (o : Ordering) → Cmp o a b → sum f s a t b c ≡ sum f s (a * g) t (b * g) (c * g)
         by Ordering·lt h =
-            sum-less f s a t b c e h ∙ round-scaled f t (b - a) c g C G ∙ ap (λ (y : ℕ). round f t y (c * g)) (sub-mul b a g) ∙ sym (sum-less f s (a * g) t (b * g) (c * g) e (mul-lt-mul-of-pos-right h G))
+            sum-less f s a t b c e h ∙ round-scaled f t (b - a) c g C G ∙ ap (λ (y : ℕ). round f t y (c * g)) (sub-mul b a g)
+            ∙ sym (sum-less f s (a * g) t (b * g) (c * g) e (mul-lt-mul-of-pos-right h G))
         by Ordering·eq h =
-            sum-none f s a t b c e h ∙ round-scaled f false 0 c g C G ∙ ap (λ (y : ℕ). round f false y (c * g)) (zero-mul g) ∙ sym (sum-none f s (a * g) t (b * g) (c * g) e (ap (λ (y : ℕ). y * g) h))
+            sum-none f s a t b c e h ∙ round-scaled f false 0 c g C G ∙ ap (λ (y : ℕ). round f false y (c * g)) (zero-mul g)
+            ∙ sym (sum-none f s (a * g) t (b * g) (c * g) e (ap (λ (y : ℕ). y * g) h))
         by Ordering·gt h =
-            sum-more f s a t b c e h ∙ round-scaled f s (a - b) c g C G ∙ ap (λ (y : ℕ). round f s y (c * g)) (sub-mul a b g) ∙ sym (sum-more f s (a * g) t (b * g) (c * g) e (mul-lt-mul-of-pos-right h G))
+            sum-more f s a t b c e h ∙ round-scaled f s (a - b) c g C G ∙ ap (λ (y : ℕ). round f s y (c * g)) (sub-mul a b g)
+            ∙ sym (sum-more f s (a * g) t (b * g) (c * g) e (mul-lt-mul-of-pos-right h G))
 
 -- the other way round
 pub sum-swap : (f : Format) (s : Bool) (a : ℕ) (t : Bool) (b c : ℕ) → sum f s a t b c ≡ sum f t b s a c
@@ -88,7 +92,8 @@ sum-swap f s a t b c = go (either (Bool·beq s t))
     equal-signs false false e = refl
 
     go : (Bool·beq s t ≡ true) ⊎ (Bool·beq s t ≡ false) → sum f s a t b c ≡ sum f t b s a c
-    go (inl e) = sum-plus f s a t b c e ∙ ap₂ (λ (r : Bool) (y : ℕ). round f r y c) (equal-signs s t e) (add-comm a b) ∙ sym (sum-plus f t b s a c (sym (other s t) ∙ e))
+    go (inl e) = sum-plus f s a t b c e ∙ ap₂ (λ (r : Bool) (y : ℕ). round f r y c) (equal-signs s t e) (add-comm a b)
+        ∙ sym (sum-plus f t b s a c (sym (other s t) ∙ e))
     go (inr e) = by (compare a b) (cmp a b)
       where
         e' : Bool·beq t s ≡ false

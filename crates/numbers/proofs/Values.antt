@@ -2,16 +2,14 @@
 -- Where the product or the term is zero, F is the product and the sum, or the product. Assumes nothing.
 use mathlib.Core.Path.{_≡_, refl, sym, ap, ap₂, _∙_}
 use mathlib.Core.Logic.{_⊎_, inl, inr}
-use Prim.Native.Nat.{ℕ, zero, suc, _*_, _<_}
+use Prim.Native.Nat.{ℕ, _*_, _<_}
 use native.Mathlib.Nat.{mul-assoc, mul-comm, mul-left-comm, mul-one, one-mul, zero-mul, mul-zero, mul-pos, zero-lt-suc}
-use mathlib.Core.Bool.{Bool, true, false, not}
-use borrow.Author.Tests.{eqb-true}
+use mathlib.Core.Bool.{Bool}
 use lib.IntN.{ℤ, pos}
-use lib.Dec.{T, eqb, eqb→eq}
 use lib.Ieee.{Float, nan, inf, fin, Format, binary32, binary64, up, down, unlike, round, sum, add, mul}
 use lib.Ieee.Fits.{up-pos, down-pos}
 use lib.Ieee.Exact.{HasValue}
-use lib.Ieee.Scale.{finite, round-same}
+use lib.Ieee.Scale.{round-same}
 use Rattle.numbers.specs.Fused.{fused}
 use Rattle.numbers.proofs.Sums.{sum-same, sum-zero}
 
@@ -71,7 +69,8 @@ zero-product f s t m e n d z o = ap (λ (v : Float). add f v z) product ∙ go z
     none (inr h) = ap (λ (y : ℕ). m * up e * (y * up d)) h ∙ ap (λ (y : ℕ). m * up e * y) (zero-mul (up d)) ∙ mul-zero (m * up e)
 
     product : mul f (fin s m e) (fin t n d) ≡ fin (unlike s t) 0 (pos 0)
-    product = ap (λ (y : ℕ). round f (unlike s t) y (down e * down d)) (none o) ∙ round-zero f (unlike s t) (down e * down d) (mul-pos (down-pos e) (down-pos d))
+    product = ap (λ (y : ℕ). round f (unlike s t) y (down e * down d)) (none o)
+        ∙ round-zero f (unlike s t) (down e * down d) (mul-pos (down-pos e) (down-pos d))
 
     go : (z : Float) → add f (fin (unlike s t) 0 (pos 0)) z ≡ fused f (fin s m e) (fin t n d) z
     go nan = refl
@@ -83,7 +82,8 @@ zero-product f s t m e n d z o = ap (λ (v : Float). add f v z) product ∙ go z
         (zeros (down g) D (m * up e * (n * up d)) (none o)) (same (p * up g) (down e) (down d) (down g))
       where
         zeros : (g D X : ℕ) → X ≡ 0 → 0 * 1 * g * D ≡ X * g * (1 * g)
-        zeros g D X h = ap (λ (y : ℕ). y * D) (zero-mul g) ∙ zero-mul D ∙ sym (ap (λ (y : ℕ). y * g * (1 * g)) h ∙ ap (λ (y : ℕ). y * (1 * g)) (zero-mul g) ∙ zero-mul (1 * g))
+        zeros g D X h = ap (λ (y : ℕ). y * D) (zero-mul g) ∙ zero-mul D
+            ∙ sym (ap (λ (y : ℕ). y * g * (1 * g)) h ∙ ap (λ (y : ℕ). y * (1 * g)) (zero-mul g) ∙ zero-mul (1 * g))
 
         same : (Z x y g : ℕ) → Z * 1 * (x * y * g) ≡ Z * (x * y) * (1 * g)
         same Z x y g = ap₂ _*_ (mul-one Z) refl ∙ sym (mul-assoc Z (x * y) g) ∙ ap (λ (w : ℕ). Z * (x * y) * w) (sym (one-mul g))
@@ -97,7 +97,8 @@ zero-term f s t u m e n d p g M N z =
     let D = down e * down d in
     round-same f (unlike s t) X D (X * down g) (D * down g) (mul-pos (down-pos e) (down-pos d)) (mul-pos (mul-pos (down-pos e) (down-pos d)) (down-pos g))
     (swap X D (down g))
-    ∙ sym (ap (λ (y : ℕ). sum f (unlike s t) (X * down g) u y (D * down g)) (ap (λ (y : ℕ). y * up g * D) z ∙ ap (λ (y : ℕ). y * D) (zero-mul (up g)) ∙ zero-mul D)
+    ∙ sym (ap (λ (y : ℕ). sum f (unlike s t) (X * down g) u y (D * down g))
+    (ap (λ (y : ℕ). y * up g * D) z ∙ ap (λ (y : ℕ). y * D) (zero-mul (up g)) ∙ zero-mul D)
     ∙ sum-zero f (unlike s t) (X * down g) u (D * down g) (mul-pos (mul-pos (mul-pos M (up-pos e)) (mul-pos N (up-pos d))) (down-pos g)))
   where
     swap : (X D g : ℕ) → X * (D * g) ≡ X * g * D

@@ -1,4 +1,5 @@
--- Values of F and the root that the definitions must give, worked out by antt from the bits of the operands: each is an answer known from outside. Assumes nothing.
+-- Values of F and the root that the definitions must give, worked out by antt from the bits of the operands: each is an answer known from outside.
+-- Assumes nothing.
 use mathlib.Core.Path.{_≡_, refl}
 use Prim.Native.Nat.{ℕ}
 use lib.Ieee.{binary64, ofBits, toBits}

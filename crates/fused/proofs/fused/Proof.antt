@@ -1,4 +1,5 @@
--- `fused::fused` meets its contract: of three ordinary numbers F is `multiply_add`'s sum, and the other operands need no rounding of their own. Assumes nothing.
+-- `fused::fused` meets its contract: of three ordinary numbers F is `multiply_add`'s sum, and the other operands need no rounding of their own.
+-- Assumes nothing.
 use mathlib.Core.Path.{sym, _∙_}
 use mathlib.Core.Logic.{inl, inr}
 use Prim.Native.Nat.{_*_, _^_}

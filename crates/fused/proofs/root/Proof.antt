@@ -1,17 +1,18 @@
 -- `fused::root` meets its contract: of an ordinary number above zero the root is the digits', packed, and any other operand needs no digits. Assumes nothing.
-use mathlib.Core.Path.{_≡_, refl, sym, ap, _∙_}
-use Prim.Native.Nat.{ℕ, _+_, _*_, _^_, _<_}
+use mathlib.Core.Path.{refl, sym, ap, _∙_}
+use Prim.Native.Nat.{ℕ, suc, _+_, _-_, _*_, _^_, _<_}
 use native.Mathlib.Omega.{arith}
 use borrow.Author.Needs.{needs}
 use lib.Pow.{pow-pos}
-use lib.Ieee.{binary64, low, lt}
+use lib.Ieee.{binary64, emax, low, lt}
 use Rattle.numbers.proofs.Roots.{root-at}
+use Rattle.fused.specs.Steps.{below, far}
 use Rattle.fused.proofs.Floats.{zero-is, nan-is, root-negative, root-itself, not-negative, value-pos, not-yes, not-no}
 use Rattle.fused.proofs.Rooting.{digits-pos, rooted-scaled}
 use Rattle.fused.proofs.root.Statement.{statement}
 use Rattle.fused.proofs.root.Tie as tie
 
-fit : (g : ℕ) → g < 2048 → g + 1059 < 4160
+fit : (g : ℕ) → g < 2 * suc (emax binary64) → g + (below binary64 - 1 - 30) < far binary64 + 64
 fit g h = omega arith
 
 returns : tie.Need-returns
@@ -41,8 +42,11 @@ pack-requires : tie.Need-pack-requires
 pack-requires c κs =
     let u = c .before .before .before .unpack .result in
     let p = c .before .before .even-power in
-    let d = c .before .root-digits in
-    (digits-pos binary64 30 (u .m) (u .e) (p .result .s) (p .result .e) (d .result) refl (p .ensures) (p .ensures .far) (d .ensures), fit (p .result .e) (p .ensures .near))
+    let d = c .before .root-digits in (
+      digits-pos binary64 30 (u .m) (u .e) (p .result .s) (p .result .e) (d .result) refl (p .ensures) (p .ensures .far) (d .ensures),
+      fit (p .result .e)
+          (p .ensures .near),
+    )
 
 returns-3 : tie.Need-returns-3
 returns-3 c =
@@ -54,10 +58,12 @@ returns-3 c =
     let p = c .before .before .before .even-power in
     let d = c .before .before .root-digits in
     let o = not-no (c .before .before .before .before .before .before .is-ordinary .ensures) (c .before .before .before .before .before .if2 .left) in
-    let v = not-negative x (u .result .neg) (m * 2 ^ e) (2 ^ low binary64) (ap (lt x) (sym zero-is) ∙ c .before .before .before .before .before .before .before .if1 .left) o (u .ensures .0) in
+    let v = not-negative x (u .result .neg) (m * 2 ^ e) (2 ^ low binary64)
+    (ap (lt x) (sym zero-is) ∙ c .before .before .before .before .before .before .before .if1 .left) o (u .ensures .0) in
     c .pack .ensures
     ∙ rooted-scaled binary64 30 m e (p .result .s) (p .result .e) (d .result) refl (p .ensures) (p .ensures .far) (d .ensures)
-    ∙ sym (root-at binary64 x (m * 2 ^ e) (2 ^ low binary64) (pow-pos (low binary64)) (value-pos x (u .result .neg) (m * 2 ^ e) (2 ^ low binary64) (pow-pos (low binary64)) o (u .ensures .0)) v)
+    ∙ sym (root-at binary64 x (m * 2 ^ e) (2 ^ low binary64) (pow-pos (low binary64))
+    (value-pos x (u .result .neg) (m * 2 ^ e) (2 ^ low binary64) (pow-pos (low binary64)) o (u .ensures .0)) v)
 
 pub root-spec : {M : Type 1} → statement M
 root-spec =

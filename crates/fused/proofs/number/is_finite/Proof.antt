@@ -1,5 +1,5 @@
 -- `fused::number::is_finite` meets its contract: its two quotients by zero are the infinities. Assumes nothing.
-use mathlib.Core.Path.{_≡_, sym, ap, _∙_}
+use mathlib.Core.Path.{sym, ap, _∙_}
 use lib.Ieee.{Float, lt}
 use Rattle.fused.proofs.Floats.{plus-inf, minus-inf, finite-yes, finite-no}
 use Rattle.fused.proofs.number.is_finite.Statement.{statement}

@@ -1,5 +1,5 @@
 -- `fused::number::is_ordinary` meets its contract. Assumes nothing.
-use mathlib.Core.Path.{_≡_, sym, ap, _∙_}
+use mathlib.Core.Path.{sym, ap, _∙_}
 use mathlib.Core.Bool.{not}
 use borrow.Author.Needs.{needs}
 use Rattle.fused.proofs.Floats.{ordinary-yes, ordinary-no}

@@ -1,5 +1,5 @@
 -- `fused::number::is_zero` meets its contract: both zeros equal 0.0, and nothing else does. Assumes nothing.
-use mathlib.Core.Path.{_≡_, ap, _∙_}
+use mathlib.Core.Path.{ap, _∙_}
 use lib.Ieee.{eq}
 use Rattle.fused.proofs.Floats.{zero-is, zero-test-is}
 use Rattle.fused.proofs.number.is_zero.Statement.{statement}

@@ -1,5 +1,5 @@
 -- `fused::pack::assemble` meets its contract: k * HIDDEN + q are the bits, up to the infinity's, and none of them is a NaN's. Assumes nothing.
-use mathlib.Core.Path.{_≡_, sym, ap, _∙_, subst}
+use mathlib.Core.Path.{sym, ap, _∙_, subst}
 use mathlib.Core.Bool.{Bool, true, false, not}
 use Prim.Native.Nat.{ℕ, _+_, _*_, _%_, _≤_}
 use native.Mathlib.Omega.{arith}

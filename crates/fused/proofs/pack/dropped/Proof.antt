@@ -1,5 +1,4 @@
 -- `fused::pack::dropped` meets its contract: a limb has at most 64 digits, so nothing overflows. Assumes nothing.
-use Prim.Native.Nat.{_^_}
 use native.Mathlib.Omega.{arith}
 use borrow.Author.Needs.{needs}
 use lib.Ieee.Digits.{size-le}

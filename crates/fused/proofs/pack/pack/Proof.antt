@@ -28,7 +28,12 @@ kept f n k e l =
     let t = cutToOdd n (below f - 2 + k) in
     let up : closest t 4 ≤ suc (t / 4) = nearest-le (t / 4) (compare (t % 4 * 2) 4) in
     let lo : t / 4 ≤ closest t 4 = nearest-ge (t / 4) (compare (t % 4 * 2) 4) in
-    record { most = most t (closest t 4) up (few f n k e); full = λ h. full t (closest t 4) lo (cut-ge n (below f - 2 + k) (prec f) (room (size n) k (low f) (prec f) e h)); near = l }
+    record {
+      most = most t (closest t 4) up (few f n k e);
+      full = λ h. full t (closest t 4) lo
+          (cut-ge n (below f - 2 + k) (prec f) (room (size n) k (low f) (prec f) e h));
+      near = l;
+    }
   where
     quarters : (p : ℕ) → 2 ^ suc (suc p) ≡ 4 * 2 ^ p
     quarters p = pow-succ' 2 (suc p) ∙ ap (λ (y : ℕ). 2 * y) (pow-succ' 2 p) ∙ two-two (2 ^ p)

@@ -1,4 +1,5 @@
--- `fused::pack::quarters` meets its contract: a shift to the right rounds to odd, and one to the left loses nothing, since s then has few digits. Assumes nothing.
+-- `fused::pack::quarters` meets its contract: a shift to the right rounds to odd, and one to the left loses nothing, since s then has few digits.
+-- Assumes nothing.
 use mathlib.Core.Path.{_≡_, sym, ap, _∙_}
 use Prim.Native.Nat.{ℕ, _+_, _-_, _*_, _%_, _^_, _≤_}
 use native.Mathlib.Nat.{mul-assoc}

@@ -8,7 +8,7 @@ use borrow.Author.Needs.{needs}
 use mir.Syntax.{w64}
 use mir.Val.{Fits}
 use lib.Pow.{pow-add, shl-exact}
-use lib.Ieee.{binary64, prec, low, hid, size}
+use lib.Ieee.{binary64, prec, emax, low, hid, size}
 use lib.Ieee.Digits.{size-le, size-lt, size-reaches}
 use Rattle.numbers.proofs.Sizes.{size-shl, size-pos}
 use Rattle.numbers.proofs.Roots.{four-pow}
@@ -59,7 +59,8 @@ double m d h k e = record { fits = subst (λ (y : ℕ). y * 2 < 2 ^ 64) (sym (fu
     go x h = omega arith
 
 -- with b, 0 or 1, the two that goes to the significand
-squared : (m e d b : ℕ) → Fields binary64 m e → d ≡ size m → (e + l - (p - d)) % 2 ≡ b → b ≤ 1 → Squared binary64 m e ((m * 2 ^ (p - d)) % 2 ^ 64 * 2 ^ b) ((e + l - (p - d)) / 2)
+squared : (m e d b : ℕ) → Fields binary64 m e → d ≡ size m → (e + l - (p - d)) % 2 ≡ b → b ≤ 1
+    → Squared binary64 m e ((m * 2 ^ (p - d)) % 2 ^ 64 * 2 ^ b) ((e + l - (p - d)) / 2)
 squared m e d b f i z one =
     let F = full m d (f .some) (f .most) i in
     let x = m * 2 ^ (p - d) in
@@ -89,7 +90,7 @@ squared m e d b f i z one =
     reach : (d : ℕ) → 0 < d → 30 ≤ (e + l - (p - d)) / 2
     reach d h = omega arith
 
-    limit : (d : ℕ) → e < 2046 → (e + l - (p - d)) / 2 < 2048
+    limit : (d : ℕ) → e < 2 * emax binary64 → (e + l - (p - d)) / 2 < 2 * suc (emax binary64)
     limit d h = omega arith
 
 digits-requires : tie.Need-digits-requires

@@ -57,7 +57,8 @@ again n a q r a' q' r' i R l S = record {
   fits = S .fits;
   whole =
       ap (λ (y : ℕ). y * 4 ^ (turns - (i + 1))) (S .square)
-      ∙ mul-assoc ((q * q + r) * 2 ^ 64 + a) 4 (4 ^ (turns - (i + 1))) ∙ ap (λ (y : ℕ). ((q * q + r) * 2 ^ 64 + a) * y) (sym (pow-succ' 4 (turns - (i + 1))) ∙ ap (λ (y : ℕ). 4 ^ y) (left i l))
+      ∙ mul-assoc ((q * q + r) * 2 ^ 64 + a) 4 (4 ^ (turns - (i + 1)))
+      ∙ ap (λ (y : ℕ). ((q * q + r) * 2 ^ 64 + a) * y) (sym (pow-succ' 4 (turns - (i + 1))) ∙ ap (λ (y : ℕ). 4 ^ y) (left i l))
       ∙ R .whole;
 }
   where
@@ -112,7 +113,7 @@ loop-again : tie.Need-loop-again Inv-loop μ-loop
 loop-again c =
     let l = c .before .before .loop in
     let r = c .root-step .result in
-    again (c .before .before .before .args .n) (l .d .a) (l .d .q) (l .d .r) (r .a) (r .q) (r .r) (l .i) (l .inv) (c .before .loop-test .taken) (c .root-step .ensures)
+    again (c .before .before .before .args .n) (l .d .a) (l .d .q) (l .d .r) (r .a) (r .q) (r .r) (l .i) (l .inv) (omega arith) (c .root-step .ensures)
 
 mul-to-odd-2 : tie.Need-mul-to-odd-2 Inv-loop μ-loop
 mul-to-odd-2 c = let l = c .before .before .loop in twice (l .d .q) (lt-of-lt-of-le (l .inv .short) (pow-mono (l .inv .within)))
@@ -123,7 +124,7 @@ to-odd-requires c κs = tt
 returns : tie.Need-returns Inv-loop μ-loop
 returns c =
     let l = c .before .before .before .loop in
-    end (c .before .before .before .before .args .n) (l .d .a) (l .d .q) (l .d .r) (l .i) (c .to-odd .result) (l .inv) (c .before .before .loop-test .left) (c .to-odd .ensures)
+    end (c .before .before .before .before .args .n) (l .d .a) (l .d .q) (l .d .r) (l .i) (c .to-odd .result) (l .inv) (omega arith) (c .to-odd .ensures)
 
 pub root-digits-spec : {M : Type 1} → statement M
 root-digits-spec =

@@ -28,7 +28,8 @@ double : (q : ℕ) → 2 * q * (2 * q) ≡ q * q * 4
 double q = mul-mul-mul-comm 2 q 2 q ∙ mul-comm 4 (q * q)
 
 double-one : (q : ℕ) → (2 * q + 1) * (2 * q + 1) ≡ q * q * 4 + (4 * q + 1)
-double-one q = add-mul (2 * q) 1 (2 * q + 1) ∙ ap₂ _+_ (mul-add (2 * q) (2 * q) 1 ∙ ap₂ _+_ (double q) (mul-one (2 * q))) (one-mul (2 * q + 1)) ∙ total (q * q * 4) q
+double-one q = add-mul (2 * q) 1 (2 * q + 1) ∙ ap₂ _+_ (mul-add (2 * q) (2 * q) 1 ∙ ap₂ _+_ (double q) (mul-one (2 * q))) (one-mul (2 * q + 1))
+    ∙ total (q * q * 4) q
   where
     total : (p q : ℕ) → p + 2 * q + (2 * q + 1) ≡ p + (4 * q + 1)
     total p q = omega arith

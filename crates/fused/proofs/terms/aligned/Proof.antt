@@ -2,7 +2,7 @@
 use mathlib.Core.Path.{_≡_, sym, ap, ap₂, _∙_, subst}
 use mathlib.Core.Logic.{_⊎_, inl, inr}
 use Prim.Native.Nat.{ℕ, _+_, _-_, _*_, _/_, _%_, _^_, _≤_, _<_}
-use native.Mathlib.Nat.{one-mul, zero-mul, mul-assoc, mod-eq-of-lt, lt-of-mul-lt-mul-right, le-add-right, lt-of-le-of-lt, lt-of-lt-of-le, eq-zero-or-pos}
+use native.Mathlib.Nat.{one-mul, mul-assoc, mod-eq-of-lt, lt-of-mul-lt-mul-right, le-add-right, lt-of-le-of-lt, lt-of-lt-of-le, eq-zero-or-pos}
 use native.Mathlib.Omega.{arith}
 use borrow.Author.Needs.{needs}
 use lib.Dec.{lit<, lit≤}
@@ -18,7 +18,8 @@ use Rattle.fused.proofs.terms.aligned.Tie as tie
 -- ---- limbs
 top : (h l k : ℕ) → limbs h l < 2 ^ (64 + k) → h < 2 ^ k
 unfolding limbs
-top h l k b = lt-of-mul-lt-mul-right (2 ^ 64) (subst (λ (y : ℕ). h * 2 ^ 64 < y) (ap (λ (y : ℕ). 2 ^ y) (swap k) ∙ pow-add 2 k 64) (lt-of-le-of-lt (le-add-right (h * 2 ^ 64) l) b))
+top h l k b = lt-of-mul-lt-mul-right (2 ^ 64) (subst (λ (y : ℕ). h * 2 ^ 64 < y) (ap (λ (y : ℕ). 2 ^ y) (swap k) ∙ pow-add 2 k 64)
+    (lt-of-le-of-lt (le-add-right (h * 2 ^ 64) l) b))
   where
     swap : (k : ℕ) → 64 + k ≡ k + 64
     swap k = omega arith
@@ -82,8 +83,10 @@ returns c =
     let t = s .pre in
     let w = limbs (a .w .hi) (a .w .lo) in
     c .pack-sum .ensures
-    ∙ ap (λ (y : ℕ). sum binary64 (a .p) (w * 2 ^ a .a) (a .t) (y * 2 ^ a .a) (scale binary64)) (one-limb (c .before .shift-to-odd .result) ∙ c .before .shift-to-odd .ensures)
-    ∙ finer binary64 62 (lit≤ tt) (a .p) w (a .a) (a .t) (a .m) (a .b) (c .before .before .if1 .taken) (t .even) (t .long (c .before .before .if1 .taken)) (t .most')
+    ∙ ap (λ (y : ℕ). sum binary64 (a .p) (w * 2 ^ a .a) (a .t) (y * 2 ^ a .a) (scale binary64))
+    (one-limb (c .before .shift-to-odd .result) ∙ c .before .shift-to-odd .ensures)
+    ∙ finer binary64 62 (lit≤ tt) (a .p) w (a .a) (a .t) (a .m) (a .b) (c .before .before .if1 .taken) (t .even) (t .long (c .before .before .if1 .taken))
+    (t .most')
 
 shl-multiply : tie.Need-shl-multiply
 shl-multiply c = search needs
@@ -96,7 +99,8 @@ pack-sum-requires-2 c κs =
     let s = c .before .before .before in
     let r = c .multiply .result in
     let d = s .args .b - s .args .a in
-    let g : r .hi < 2 ^ 62 = top (r .hi) (r .lo) 62 (subst (λ (y : ℕ). y < 2 ^ (64 + 62)) (sym (c .multiply .ensures)) (product (s .args .m) d (s .pre .most') (c .before .if2 .taken))) in
+    let g : r .hi < 2 ^ 62 = top (r .hi) (r .lo) 62 (subst (λ (y : ℕ). y < 2 ^ (64 + 62)) (sym (c .multiply .ensures))
+    (product (s .args .m) d (s .pre .most') (c .before .if2 .taken))) in
     (s .pre .some, one-more (s .args .w .hi) (r .hi) (upper s) g, s .pre .near)
 
 to-odd-requires : tie.Need-to-odd-requires
@@ -109,8 +113,12 @@ pack-sum-requires-3 : tie.Need-pack-sum-requires-3
 pack-sum-requires-3 c κs =
     let s = c .before .before .before .before in
     let w = s .args .w in
-    let o : 0 < c .before .to-odd .result = subst (λ (y : ℕ). 0 < y) (sym (c .before .to-odd .ensures)) (some-odd (w .hi) (w .lo) (s .pre .some)) in
-    (subst (λ (y : ℕ). 0 < y) (sym (one-limb (c .shift-to-odd2 .result) ∙ c .shift-to-odd2 .ensures)) (cut-pos (c .before .to-odd .result) (s .args .b - s .args .a - 64) o), lit< tt, s .pre .near')
+    let o : 0 < c .before .to-odd .result = subst (λ (y : ℕ). 0 < y) (sym (c .before .to-odd .ensures)) (some-odd (w .hi) (w .lo) (s .pre .some)) in (
+      subst (λ (y : ℕ). 0 < y) (sym (one-limb (c .shift-to-odd2 .result) ∙ c .shift-to-odd2 .ensures))
+          (cut-pos (c .before .to-odd .result) (s .args .b - s .args .a - 64) o),
+      lit< tt,
+      s .pre .near',
+    )
 
 returns-2 : tie.Need-returns-2
 returns-2 c =
@@ -118,7 +126,8 @@ returns-2 c =
     let w = limbs (a .w .hi) (a .w .lo) in
     c .pack-sum2 .ensures
     ∙ ap (λ (y : ℕ). sum binary64 (a .p) (w * 2 ^ a .a) (a .t) y (scale binary64))
-    (ap (λ (y : ℕ). y * 2 ^ a .a) (c .before .multiply .ensures) ∙ joined (a .m) (a .a) (a .b) (c .before .before .before .if1 .left) (c .before .before .if2 .taken))
+    (ap (λ (y : ℕ). y * 2 ^ a .a) (c .before .multiply .ensures) ∙ joined (a .m) (a .a) (a .b) (c .before .before .before .if1 .left)
+    (c .before .before .if2 .taken))
 
 returns-3 : tie.Need-returns-3
 returns-3 c =
@@ -129,7 +138,8 @@ returns-3 c =
     let l = a .w .lo in
     c .pack-sum3 .ensures
     ∙ ap₂ (λ (y z : ℕ). sum binary64 (a .p) (y * 2 ^ a .b) (a .t) (z * 2 ^ a .b) (scale binary64))
-    (one-limb (c .before .shift-to-odd2 .result) ∙ c .before .shift-to-odd2 .ensures ∙ ap (λ (y : ℕ). cutToOdd y (a .b - a .a - 64)) (c .before .before .to-odd .ensures)) (one-limb (a .m))
+    (one-limb (c .before .shift-to-odd2 .result) ∙ c .before .shift-to-odd2 .ensures
+    ∙ ap (λ (y : ℕ). cutToOdd y (a .b - a .a - 64)) (c .before .before .to-odd .ensures)) (one-limb (a .m))
     ∙ coarse binary64 61 (lit≤ tt) (a .p) h l (a .a) (a .t) (a .m) (a .b) (c .before .before .before .if2 .left) (omega arith) (t .most) (t .even') (t .long')
 
 pub aligned-spec : {M : Type 1} → statement M

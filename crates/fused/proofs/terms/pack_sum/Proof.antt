@@ -1,6 +1,6 @@
 -- `fused::terms::pack_sum` meets its contract: by the cases of lib.Ieee's `sum`. Assumes nothing.
 use mathlib.Core.Path.{_≡_, refl, sym, ap, ap₂, _∙_}
-use Prim.Native.Nat.{ℕ, _+_, _-_, _*_, _^_, _<_}
+use Prim.Native.Nat.{ℕ, _-_, _*_, _^_, _<_}
 use native.Mathlib.Nat.{le-of-lt, le-antisymm, mul-comm, mul-sub, add-mul, mul-lt-mul-of-pos-right}
 use native.Mathlib.Omega.{arith}
 use mathlib.Core.Bool.{Bool, true, false}
@@ -8,7 +8,7 @@ use borrow.Author.Needs.{needs}
 use borrow.Author.Tests.{ltb-true, ltb-false}
 use lib.Dec.{ltb}
 use lib.Pow.{pow-pos}
-use lib.Ieee.{binary64, round, ofBits, sum}
+use lib.Ieee.{binary64, round, ofBits}
 use Rattle.numbers.proofs.Sums.{sum-plus, sum-less, sum-more, sum-none}
 use Rattle.fused.specs.Steps.{limbs, scale}
 use Rattle.fused.proofs.terms.pack_sum.Statement.{statement}
@@ -50,8 +50,12 @@ subtract-requires c κs = le-of-lt (said (first (c .before .before .before)) (se
 pack-wide-requires-2 : tie.Need-pack-wide-requires-2
 pack-wide-requires-2 c κs =
     let s = c .before .before .before .before in
-    let w = c .subtract .result in
-    (rest (limbs (w .hi) (w .lo)) (second s) (first s) (c .subtract .ensures .0) (said (first s) (second s) (c .before .before .less .ensures) (c .before .if2 .taken)), omega arith, s .pre .2)
+    let w = c .subtract .result in (
+      rest (limbs (w .hi) (w .lo)) (second s) (first s) (c .subtract .ensures .0)
+          (said (first s) (second s) (c .before .before .less .ensures) (c .before .if2 .taken)),
+      omega arith,
+      s .pre .2,
+    )
 
 less-requires-2 : tie.Need-less-requires-2
 less-requires-2 c κs = search needs
@@ -62,8 +66,12 @@ subtract-requires-2 c κs = let s = c .before .before .before .before .before in
 pack-wide-requires-3 : tie.Need-pack-wide-requires-3
 pack-wide-requires-3 c κs =
     let s = c .before .before .before .before .before .before in
-    let w = c .subtract2 .result in
-    (rest (limbs (w .hi) (w .lo)) (first s) (second s) (c .subtract2 .ensures .0) (said (second s) (first s) (c .before .before .less2 .ensures) (c .before .if3 .taken)), omega arith, s .pre .2)
+    let w = c .subtract2 .result in (
+      rest (limbs (w .hi) (w .lo)) (first s) (second s) (c .subtract2 .ensures .0)
+          (said (second s) (first s) (c .before .before .less2 .ensures) (c .before .if3 .taken)),
+      omega arith,
+      s .pre .2,
+    )
 
 returns : tie.Need-returns
 returns c =
@@ -86,7 +94,8 @@ returns-2 c =
     let h : x < y = said x y (c .before .before .before .less .ensures) (c .before .before .if2 .taken) in
     c .pack-wide2 .ensures
     ∙ ap (λ (n : ℕ). round binary64 (a .m) n (scale binary64)) (ap (λ (n : ℕ). n * g) (c .before .subtract .ensures .0) ∙ sub-mul y x g)
-    ∙ sym (sum-less binary64 (a .p) (x * g) (a .m) (y * g) (scale binary64) (c .before .before .before .before .if1 .left) (mul-lt-mul-of-pos-right h (pow-pos (a .e))))
+    ∙ sym (sum-less binary64 (a .p) (x * g) (a .m) (y * g) (scale binary64) (c .before .before .before .before .if1 .left)
+    (mul-lt-mul-of-pos-right h (pow-pos (a .e))))
 
 returns-3 : tie.Need-returns-3
 returns-3 c =
@@ -98,7 +107,8 @@ returns-3 c =
     let h : y < x = said y x (c .before .before .before .less2 .ensures) (c .before .before .if3 .taken) in
     c .pack-wide3 .ensures
     ∙ ap (λ (n : ℕ). round binary64 (a .p) n (scale binary64)) (ap (λ (n : ℕ). n * g) (c .before .subtract2 .ensures .0) ∙ sub-mul x y g)
-    ∙ sym (sum-more binary64 (a .p) (x * g) (a .m) (y * g) (scale binary64) (c .before .before .before .before .before .before .if1 .left) (mul-lt-mul-of-pos-right h (pow-pos (a .e))))
+    ∙ sym (sum-more binary64 (a .p) (x * g) (a .m) (y * g) (scale binary64) (c .before .before .before .before .before .before .if1 .left)
+    (mul-lt-mul-of-pos-right h (pow-pos (a .e))))
 
 returns-4 : tie.Need-returns-4
 returns-4 c =
@@ -107,7 +117,8 @@ returns-4 c =
     let x = first s in
     let y = second s in
     let g = 2 ^ a .e in
-    let e : x ≡ y = le-antisymm (ltb-false y x (sym (c .before .less2 .ensures) ∙ c .if3 .left)) (ltb-false x y (sym (c .before .before .before .less .ensures) ∙ c .before .before .if2 .left)) in
+    let e : x ≡ y = le-antisymm (ltb-false y x (sym (c .before .less2 .ensures) ∙ c .if3 .left))
+    (ltb-false x y (sym (c .before .before .before .less .ensures) ∙ c .before .before .if2 .left)) in
     zero-law ∙ sym (sum-none binary64 (a .p) (x * g) (a .m) (y * g) (scale binary64) (c .before .before .before .before .if1 .left) (ap (λ (n : ℕ). n * g) e))
 
 pub pack-sum-spec : {M : Type 1} → statement M

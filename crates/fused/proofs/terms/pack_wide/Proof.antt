@@ -1,4 +1,5 @@
--- `fused::terms::pack_wide` meets its contract: two limbs have more digits than are kept, with two to spare, so squeezing them changes no answer. Assumes nothing.
+-- `fused::terms::pack_wide` meets its contract: two limbs have more digits than are kept, with two to spare, so squeezing them changes no answer.
+-- Assumes nothing.
 use mathlib.Core.Path.{_≡_, sym, ap, ap₂, _∙_, subst}
 use mathlib.Core.Logic.{_⊎_, inl, inr}
 use Prim.Native.Nat.{ℕ, _+_, _-_, _*_, _^_, _≤_, _<_}
@@ -31,8 +32,11 @@ squeeze-requires c κs = search needs
 pack-requires : tie.Need-pack-requires
 pack-requires c κs =
     let w = c .before .args .w in
-    let z = size-le (w .hi) 63 (c .before .pre .1) in
-    (subst (λ (y : ℕ). 0 < y) (sym (c .squeeze .ensures .0)) (cut-pos (limbs (w .hi) (w .lo)) (size (w .hi)) (c .before .pre .0)), omega (arith, c .squeeze .ensures .1))
+    let z = size-le (w .hi) 63 (c .before .pre .1) in (
+      subst (λ (y : ℕ). 0 < y) (sym (c .squeeze .ensures .0)) (cut-pos (limbs (w .hi) (w .lo)) (size (w .hi)) (c .before .pre .0)),
+      omega
+          (arith, c .squeeze .ensures .1),
+    )
 
 returns : tie.Need-returns
 returns c =
@@ -41,7 +45,8 @@ returns c =
     let e = c .before .squeeze .ensures in
     c .pack .ensures
     ∙ ap₂ (λ (s e : ℕ). round binary64 (a .neg) (s * 2 ^ e) (scale binary64)) (e .0) (e .1)
-    ∙ round-squeeze binary64 (a .neg) (limbs (w .hi) (w .lo)) (size (w .hi)) (a .e) (below binary64) (c .before .before .pre .0) (enough binary64 (w .hi) (w .lo) (a .e) (omega arith) (omega arith))
+    ∙ round-squeeze binary64 (a .neg) (limbs (w .hi) (w .lo)) (size (w .hi)) (a .e) (below binary64) (c .before .before .pre .0)
+    (enough binary64 (w .hi) (w .lo) (a .e) (omega arith) (omega arith))
 
 pub pack-wide-spec : {M : Type 1} → statement M
 pack-wide-spec = tie.close (tie.spec squeeze-requires pack-requires returns)

@@ -1,7 +1,8 @@
 -- `fused::terms::squeeze` meets its contract: the upper limb's digits, moved to the top, and as many of the lower limb's as then have room. Assumes nothing.
 use mathlib.Core.Path.{_≡_, sym, ap, ap₂, _∙_, subst}
 use Prim.Native.Nat.{ℕ, _+_, _-_, _*_, _/_, _%_, _^_, _≤_, _<_}
-use native.Mathlib.Nat.{mod-le, le-trans, lt-of-le-of-lt, le-of-eq, div-mul-le-self, mod-eq-of-lt, mod-eq-sub-div-mul, mul-assoc, add-zero, mul-add-div-right, mul-add-mod-self-right}
+use native.Mathlib.Nat.{mod-le, le-trans, lt-of-le-of-lt, le-of-eq, div-mul-le-self, mod-eq-of-lt, mod-eq-sub-div-mul, mul-assoc, add-zero, mul-add-div-right}
+use native.Mathlib.Nat.{mul-add-mod-self-right}
 use native.Mathlib.Omega.{arith}
 use borrow.Author.Needs.{needs}
 use mir.Syntax.{w64}
@@ -44,7 +45,8 @@ module _ (hi lo n : ℕ) (few : n ≤ 64) (digits : hi < 2 ^ n) (limb : lo < 2 ^
   law : toOdd ((hi * 2 ^ (64 - n)) % 2 ^ 64 + lo / 2 ^ n) (lo - (lo / 2 ^ n * 2 ^ n) % 2 ^ 64) ≡ toOdd (limbs hi lo / 2 ^ n) (limbs hi lo % 2 ^ n)
   unfolding limbs
   law =
-      let up : hi * 2 ^ 64 ≡ hi * 2 ^ (64 - n) * 2 ^ n = sym (mul-assoc hi (2 ^ (64 - n)) (2 ^ n) ∙ ap (λ (y : ℕ). hi * y) (sym (pow-add 2 (64 - n) n) ∙ ap (λ (y : ℕ). 2 ^ y) back)) in
+      let up : hi * 2 ^ 64 ≡ hi * 2 ^ (64 - n) * 2 ^ n = sym (mul-assoc hi (2 ^ (64 - n)) (2 ^ n)
+      ∙ ap (λ (y : ℕ). hi * y) (sym (pow-add 2 (64 - n) n) ∙ ap (λ (y : ℕ). 2 ^ y) back)) in
       let e : limbs hi lo ≡ hi * 2 ^ (64 - n) * 2 ^ n + lo = ap (λ (y : ℕ). y + lo) up in
       ap₂ toOdd
       (ap (λ (y : ℕ). y + lo / 2 ^ n) kept ∙ sym (ap (λ (y : ℕ). y / 2 ^ n) e ∙ mul-add-div-right (pow-pos n) (hi * 2 ^ (64 - n)) lo))

@@ -1,4 +1,5 @@
--- `fused::wide::multiply` meets its contract: each product of two halves is at most (2^32 - 1)^2, so no column overflows, and the columns add up. Assumes nothing.
+-- `fused::wide::multiply` meets its contract: each product of two halves is at most (2^32 - 1)^2, so no column overflows, and the columns add up.
+-- Assumes nothing.
 use Prim.Native.Nat.{ℕ, _*_, _/_, _%_, _^_, _<_, _≤_}
 use native.Mathlib.Nat.{mul-le-mul}
 use native.Mathlib.Omega.{arith}
@@ -17,7 +18,8 @@ at-most a b h k = mul-le-mul h k
 
 -- the products of u's halves with v's
 sizes : (u v : ℕ) → u < 2 ^ 64 → v < 2 ^ 64
-    → (u % 2 ^ 32 * (v % 2 ^ 32) ≤ largest) × (u / 2 ^ 32 * (v % 2 ^ 32) ≤ largest) × (u % 2 ^ 32 * (v / 2 ^ 32) ≤ largest) × (u / 2 ^ 32 * (v / 2 ^ 32) ≤ largest)
+    → (u % 2 ^ 32 * (v % 2 ^ 32) ≤ largest) × (u / 2 ^ 32 * (v % 2 ^ 32) ≤ largest)
+    × (u % 2 ^ 32 * (v / 2 ^ 32) ≤ largest) × (u / 2 ^ 32 * (v / 2 ^ 32) ≤ largest)
 sizes u v h k = (
   at-most (u % 2 ^ 32) (v % 2 ^ 32) (omega arith) (omega arith),
   at-most (u / 2 ^ 32) (v % 2 ^ 32) (omega arith) (omega arith),

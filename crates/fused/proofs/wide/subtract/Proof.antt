@@ -1,7 +1,7 @@
 -- `fused::wide::subtract` meets its contract: where the lower limb is too small, one is lent by the upper, which is then larger than b's. Assumes nothing.
-use mathlib.Core.Path.{_≡_, refl}
+use mathlib.Core.Path.{refl}
 use Prim.Native.Nat.{ℕ, _+_, _-_, _^_, _≤_, _<_}
-use native.Mathlib.Nat.{lt-of-le-of-lt, le-of-lt, sub-le, le-trans}
+use native.Mathlib.Nat.{le-of-lt, sub-le, le-trans}
 use native.Mathlib.Omega.{arith}
 use Rattle.fused.specs.Steps.{limbs}
 use Rattle.fused.proofs.Limbs.{borrowed, plain, lent, above}

@@ -1,0 +1,154 @@
+// Compares F and the root with answers that a machine's own fma and sqrt gave, read from standard input, and prints how many there were and how many differ.
+//
+// A line has 70 bytes: a letter, four words of 16 hex digits with a space before each, and a line feed. `F x y z r` asks that r is F(x,y,z), and
+// `R x r x r` twice that r is the root of x. docs/VECTORS.md says how the list was made. A line that is not so is counted as unread, and so are bytes
+// left over at the end: what is printed shows a short or a spoilt list.
+mod float;
+mod text;
+
+use float::bits;
+use float::number;
+use libc::STDIN_FILENO;
+use libc::STDOUT_FILENO;
+ghost use lib.ListN.{length};
+ghost use Prim.Native.Nat.{_+_, _≤_};
+
+const LINE: usize = 70;
+
+// As many whole lines as are read at once.
+const CHUNK: usize = 65520;
+
+// Of so many differences each is printed.
+const SHOWN: u64 = 5;
+
+struct Tally {
+    fused: u64,
+    fused_differ: u64,
+    roots: u64,
+    roots_differ: u64,
+    unread: u64,
+    more: bool,
+}
+
+fn show(name: u8, x: u64, wanted: u64, got: u64) {
+    let mut label = [32u8; 2];
+    label[0] = name;
+    io::write_all(STDOUT_FILENO, &label);
+    io::print_hex(STDOUT_FILENO, x, 16);
+    io::write_all(STDOUT_FILENO, b" wanted ");
+    io::print_hex(STDOUT_FILENO, wanted, 16);
+    io::write_all(STDOUT_FILENO, b" got ");
+    io::print_hex(STDOUT_FILENO, got, 16);
+    io::write_all(STDOUT_FILENO, b"\n");
+}
+
+fn fused_case(x: u64, y: u64, z: u64, wanted: u64, t: Tally) -> Tally {
+    let got = bits(fused::fused(number(x), number(y), number(z)));
+    let mut after = t;
+    after.fused = text::one_more(t.fused);
+    if got != wanted {
+        after.fused_differ = text::one_more(t.fused_differ);
+        if t.fused_differ < SHOWN {
+            io::write_all(STDOUT_FILENO, b"y ");
+            io::print_hex(STDOUT_FILENO, y, 16);
+            io::write_all(STDOUT_FILENO, b" z ");
+            io::print_hex(STDOUT_FILENO, z, 16);
+            io::write_all(STDOUT_FILENO, b" ");
+            show(b'F', x, wanted, got);
+        }
+    }
+    after
+}
+
+fn root_case(x: u64, wanted: u64, t: Tally) -> Tally {
+    let got = bits(fused::root(number(x)));
+    let mut after = t;
+    after.roots = text::one_more(t.roots);
+    if got != wanted {
+        after.roots_differ = text::one_more(t.roots_differ);
+        if t.roots_differ < SHOWN {
+            show(b'R', x, wanted, got);
+        }
+    }
+    after
+}
+
+// The line that starts at `at`.
+fn line(s: &[u8], at: usize, t: Tally) -> Tally
+    requires { ⌜ at + 70 ≤ length (now s) ⌝ }
+{
+    let kind = s[at];
+    let end = s[at + 69];
+    let a = text::read_word(s, at + 1);
+    let b = text::read_word(s, at + 18);
+    let c = text::read_word(s, at + 35);
+    let d = text::read_word(s, at + 52);
+    let whole = a.read && b.read && c.read && d.read && end == b'\n';
+    if whole && kind == b'F' {
+        return fused_case(a.bits, b.bits, c.bits, d.bits, t);
+    }
+    if whole && kind == b'R' {
+        let half = root_case(a.bits, b.bits, t);
+        return root_case(c.bits, d.bits, half);
+    }
+    let mut after = t;
+    after.unread = text::one_more(t.unread);
+    after
+}
+
+// Every whole line of s; a rest counts as one unread.
+fn lines(s: &[u8], t: Tally) -> Tally {
+    let mut after = t;
+    let mut at = 0;
+    while LINE <= s.len() - at {
+        after = line(s, at, after);
+        at += LINE;
+    }
+    if at < s.len() {
+        after.unread = text::one_more(after.unread);
+    }
+    after
+}
+
+fn chunk(t: Tally) -> Tally {
+    let mut s = [0u8; CHUNK];
+    let n = io::read_full(STDIN_FILENO, &mut s);
+    let mut after = lines(&s[..n], t);
+    after.more = n == CHUNK;
+    after
+}
+
+fn count(name: &[u8], cases: u64, differ: u64) {
+    io::write_all(STDOUT_FILENO, name);
+    io::print_decimal(STDOUT_FILENO, cases);
+    io::write_all(STDOUT_FILENO, b" cases ");
+    io::print_decimal(STDOUT_FILENO, differ);
+    io::write_all(STDOUT_FILENO, b" differences\n");
+}
+
+fn whole_list() -> Tally {
+    let mut t = Tally {
+        fused: 0,
+        fused_differ: 0,
+        roots: 0,
+        roots_differ: 0,
+        unread: 0,
+        more: true,
+    };
+    // A proved loop has to end: no list is so long.
+    let mut turns: u64 = 65536;
+    while turns > 0 && t.more {
+        t = chunk(t);
+        turns -= 1;
+    }
+    t
+}
+
+fn main() {
+    let t = whole_list();
+    count(b"F ", t.fused, t.fused_differ);
+    count(b"root ", t.roots, t.roots_differ);
+    io::write_all(STDOUT_FILENO, b"unread ");
+    io::print_decimal(STDOUT_FILENO, t.unread);
+    io::write_all(STDOUT_FILENO, b"\n");
+}
