@@ -17,12 +17,8 @@ use Rattle.book.specs.Answers.{refused, again, said, Replied, Buffers, O
 use Rattle.book.specs.ExactlyOnce.{FoundIn, done, Longest, In, Numbered, after, OneOf, AllOf, cons, seen, Given, Once, ExactlyOnce}
 use Rattle.book.specs.Kernels.{badSize, mostQubits, badLength}
 use Rattle.book.specs.Records.{readRecord}
-use Rattle.book.specs.Sessions.{session, start, act, accepts, Delivery, kept, refusing, counted, takeRecord, takeRead, deliver, Bench, deliverAll}
+use Rattle.book.specs.Sessions.{Session, session, start, act, accepts, Delivery, kept, refusing, counted, takeRecord, takeRead, deliver, Bench, deliverAll}
 use Rattle.book.specs.declared.Record.{Record}
-use Rattle.book.specs.declared.Refusal.the-variants.{Size}
-use Rattle.book.specs.declared.Session.{Session}
-use Rattle.book.specs.declared.Started.{Started}
-use Rattle.book.specs.declared.Started.the-variants.{Session as Fresh, Refused as Unstarted}
 use Rattle.book.proofs.Found.{longest-same, longest-next, found-nil}
 use Rattle.book.proofs.Lengths.{act-fits}
 
@@ -97,7 +93,7 @@ module _ (n : ℕ) where
 
 -- ---- a session that could be started
 
-started : (n own : ℕ) (t : Bool) → cond t (Unstarted Size) (Fresh (session n own 0)) ≡ Fresh (session n own 0) → t ≡ false
+started : (n own : ℕ) (t : Bool) → cond t none (some (session n own 0)) ≡ some (session n own 0) → t ≡ false
 started n own true e = let z : _≡_ {A = ℕ} 0 1 = cc in absurd (omega arith)
 started n own false e = refl
 

@@ -8,8 +8,6 @@ use Rattle.book.specs.declared.Refusal.{Refusal}
 use Rattle.book.specs.declared.Refusal.the-variants.{Size, Length, Qubit, Same, Form, Number, Chance, Record, Session, Early, Full, Room}
 use Rattle.book.specs.declared.Answer.{Answer}
 use Rattle.book.specs.declared.Answer.the-variants.{Taken, Value, Refused}
-use Rattle.book.specs.declared.Reply.{Reply}
-use Rattle.book.specs.declared.Reply.the-variants.{Taken as Taken′, Value as Value′, Again, Refused as Refused′}
 
 -- 01's table
 abbrev pub numberOf : Refusal → ℕ
@@ -41,12 +39,6 @@ says (Refused r) = refused (numberOf r)
 pub data Replied : Type 0 where
   again : Replied
   said : Said → Replied
-
-abbrev pub replies : Reply → Replied
-replies Taken′ = said taken
-replies (Value′ v) = said (value v)
-replies Again = again
-replies (Refused′ r) = said (refused (numberOf r))
 
 -- A test of the table: where it applies, the refusal has this number.
 pub record Test : Type 0 where

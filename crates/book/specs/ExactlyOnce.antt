@@ -12,8 +12,6 @@ use Rattle.book.specs.Kernels.{badLength}
 use Rattle.book.specs.Records.{readRecord}
 use Rattle.book.specs.Sessions.{session, start, act, accepts, Delivery, deliver, Bench, deliverAll}
 use Rattle.book.specs.declared.Record.{Record}
-use Rattle.book.specs.declared.Session.{Session}
-use Rattle.book.specs.declared.Started.the-variants.{Session as Fresh}
 
 -- ---- the longest start of a list found in order
 
@@ -70,7 +68,7 @@ seen (bytes ∷ more) = cons (readRecord bytes) (seen more)
 
 -- A fresh session, buffers of its length, and up to 65,535 records made for it, numbered from 0, which applied once each in order are all accepted.
 pub record Given (n own : ℕ) (b : Buffers) (rs : List Record) : Type 0 where
-  pub fresh : start n own ≡ Fresh (session n own 0)
+  pub fresh : start n own ≡ some (session n own 0)
   pub fits : badLength (2 ^ n) b ≡ false
   pub few : length rs ≤ 65535
   pub made : Numbered own 0 rs

@@ -12,11 +12,10 @@ use Rattle.book.specs.Gates.{F, xGate, yGate, hGate}
 use Rattle.book.specs.Kernels.{kernel, swap, uncontrolled}
 use Rattle.book.specs.Measuring.{measure}
 use Rattle.book.specs.Records.{writeRecord}
-use Rattle.book.specs.Sessions.{session, deliver}
+use Rattle.book.specs.Sessions.{Session, session, deliver}
 use Rattle.book.specs.declared.Controls.{Controls}
 use Rattle.book.specs.declared.Gate.the-variants.{X}
 use Rattle.book.specs.declared.Record.{Record}
-use Rattle.book.specs.declared.Session.{Session}
 
 -- ---- how an example is written
 

@@ -3,28 +3,28 @@ use Prim.Native.Nat.{ℕ, _+_, _^_}
 use mathlib.Core.Bool.{Bool, true, false, cond, not}
 use mathlib.Core.List.{List, [], _∷_}
 use mathlib.Core.Option.{Option, some, none}
-use mathlib.Core.Path.{_≡_}
 use lib.Dec.{ltb, eqb}
-use Rattle.book.specs.Answers.{Said, taken, value, refused, Replied, again, said, replies, Buffers, Outcome}
+use Rattle.book.specs.Answers.{Said, taken, value, refused, Replied, again, said, Buffers, Outcome}
 use Rattle.book.specs.Gates.{hGate, xGate, yGate, zGate, pGate, rxGate, ryGate, rzGate, uGate}
 use Rattle.book.specs.Kernels.{badSize, mostQubits, badLength, kernel, swap, bitFlip}
 use Rattle.book.specs.Measuring.{measure}
 use Rattle.book.specs.Records.{readRecord}
-use Rattle.book.specs.declared.Delivered.{Delivered}
 use Rattle.book.specs.declared.Gate.{Gate}
 use Rattle.book.specs.declared.Gate.the-variants.{H, X, Y, Z, P, Rx, Ry, Rz, U, Swap, Measure, BitFlip}
 use Rattle.book.specs.declared.Record.{Record}
-use Rattle.book.specs.declared.Refusal.the-variants.{Size}
-use Rattle.book.specs.declared.Session.{Session}
-use Rattle.book.specs.declared.Started.{Started}
-use Rattle.book.specs.declared.Started.the-variants.{Session as Fresh, Refused as Unstarted}
+
+-- a session is n, its number and the count of records taken
+pub record Session : Type 0 where
+  pub n : ℕ
+  pub number : ℕ
+  pub count : ℕ
 
 abbrev pub session : ℕ → ℕ → ℕ → Session
 session n own count = record { n = n; number = own; count = count }
 
--- a session starts at 0; with a bad n it is refusal 1, and there is none
-abbrev pub start : ℕ → ℕ → Started
-start n own = cond (badSize mostQubits n) (Unstarted Size) (Fresh (session n own 0))
+-- it starts at 0; a bad n is refusal 1, and gives no session
+abbrev pub start : ℕ → ℕ → Option Session
+start n own = cond (badSize mostQubits n) none (some (session n own 0))
 
 -- what a gate does to a state of n qubits
 unfoldable pub act : ℕ → Gate → Buffers → Outcome
@@ -89,13 +89,6 @@ deliver s b bytes =
     refusing (badSize mostQubits (s .n)) 1 s b
     (refusing (badLength (2 ^ s .n) b) 2 s b
     (takeRead s b (readRecord bytes)))
-
--- A delivery's whole contract. The answer carries the count after it.
-pub record Delivers (d : Delivery) (answer : Delivered) (after : Buffers) : Type 0 where
-  pub next : answer .next ≡ d .next
-  pub reply : replies (answer .reply) ≡ d .says
-  pub count : answer .count ≡ d .next .count
-  pub leaves : after ≡ d .left
 
 -- ---- one delivery after the other
 

@@ -1,4 +1,4 @@
-// The values that document 01 speaks of: amplitudes, gates, records, sessions, and the answers of the calls.
+// The values that document 01 speaks of: amplitudes, gates, records, and the answers of the calls. A session's are in the crate sessions, with its methods.
 // Types only: what they mean is in specs/, in 01's order.
 
 // An amplitude is a pair of f64, real and imaginary.
@@ -76,13 +76,6 @@ pub struct Record {
     pub gate: Gate,
 }
 
-// A session: n qubits, its number, and the count of records taken.
-pub struct Session {
-    pub n: u32,
-    pub number: u32,
-    pub count: u16,
-}
-
 // The refusals, in the order of 01's table.
 pub enum Refusal {
     Size,
@@ -103,27 +96,6 @@ pub enum Refusal {
 pub enum Answer {
     Taken,
     Value(u8),
-    Refused(Refusal),
-}
-
-// What a delivery says.
-pub enum Reply {
-    Taken,
-    Value(u8),
-    Again,
-    Refused(Refusal),
-}
-
-// A delivery hands back the next session, its reply, and the count after it.
-pub struct Delivered {
-    pub next: Session,
-    pub reply: Reply,
-    pub count: u16,
-}
-
-// Starting a session gives one, or refusal 1.
-pub enum Started {
-    Session(Session),
     Refused(Refusal),
 }
 

@@ -1,0 +1,41 @@
+-- Any two results that a delivery's contract allows agree: what a reply says gives the reply back, and a session's meaning the session. Assumes nothing.
+use Prim.Native.Nat.{ℕ}
+use mathlib.Core.Path.{_≡_, refl, sym, ap, ap₂, _∙_}
+use Rattle.book.proofs.Agree.{refusalOf, refusal-back}
+use Rattle.book.specs.Answers.{taken, value, refused, Replied, again, said, Buffers}
+use Rattle.book.specs.Sessions as Book
+use Rattle.sessions.specs.Deliveries.{meant, replies, Delivers}
+use Rattle.sessions.specs.declared.Delivered.{Delivered}
+use Rattle.sessions.specs.declared.Reply.{Reply}
+use Rattle.sessions.specs.declared.Reply.the-variants.{Taken, Value, Again, Refused}
+use Rattle.sessions.specs.declared.Session.{Session}
+
+abbrev replyOf : Replied → Reply
+replyOf again = Again
+replyOf (said taken) = Taken
+replyOf (said (value v)) = Value v
+replyOf (said (refused k)) = Refused (refusalOf k)
+
+reply-back : (x : Reply) → replyOf (replies x) ≡ x
+reply-back Taken = refl
+reply-back (Value v) = refl
+reply-back Again = refl
+reply-back (Refused r) = ap Refused (refusal-back r)
+
+abbrev sessionOf : Book.Session → Session
+sessionOf s = record { n = s .n; number = s .number; count = s .count }
+
+pub delivers-agree : {d : Book.Delivery} {a a′ : Delivered} {b b′ : Buffers} → Delivers d a b → Delivers d a′ b′ → (a ≡ a′) × (b ≡ b′)
+delivers-agree {a = a} {a′ = a′} x y = (
+  ap₂ (λ (s : Session) (r : Reply). made s r (a .count)) next reply ∙ ap (made (a′ .next) (a′ .reply)) (x .count ∙ sym (y .count)),
+  x .leaves ∙ sym (y .leaves),
+)
+  where
+    made : Session → Reply → ℕ → Delivered
+    made s r k = record { next = s; reply = r; count = k }
+
+    next : a .next ≡ a′ .next
+    next = ap sessionOf (x .next ∙ sym (y .next))
+
+    reply : a .reply ≡ a′ .reply
+    reply = sym (reply-back (a .reply)) ∙ ap replyOf (x .reply ∙ sym (y .reply)) ∙ reply-back (a′ .reply)

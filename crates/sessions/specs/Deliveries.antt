@@ -1,0 +1,50 @@
+-- What a session, a reply and an answer of this crate mean in 01's words, and a delivery's whole contract. Definitions only. Assumes nothing.
+use Prim.Native.Nat.{ℕ, _+_}
+use mathlib.Core.Option.{Option, some, none}
+use mathlib.Core.Path.{_≡_}
+use Rattle.book.specs.Answers.{numberOf, taken, value, refused, Replied, again, said, Buffers}
+use Rattle.book.specs.Sessions as Book
+use Rattle.book.specs.declared.Answer.{Answer}
+use Rattle.book.specs.declared.Answer.the-variants.{Taken, Value, Refused}
+use Rattle.book.specs.declared.Refusal.{Refusal}
+use Rattle.book.specs.declared.Refusal.the-variants.{Size}
+use Rattle.sessions.specs.declared.Delivered.{Delivered}
+use Rattle.sessions.specs.declared.Reply.{Reply}
+use Rattle.sessions.specs.declared.Reply.the-variants.{Taken as Taken′, Value as Value′, Again, Refused as Refused′}
+use Rattle.sessions.specs.declared.Session.{Session}
+use Rattle.sessions.specs.declared.Started.{Started}
+use Rattle.sessions.specs.declared.Started.the-variants.{Fresh, Refused as Unstarted}
+
+abbrev pub meant : Session → Book.Session
+meant s = Book.session (s .n) (s .number) (s .count)
+
+abbrev pub replies : Reply → Replied
+replies Taken′ = said taken
+replies (Value′ v) = said (value v)
+replies Again = again
+replies (Refused′ r) = said (refused (numberOf r))
+
+-- a session as it is started; none is refusal 1
+abbrev pub startedOf : Option Book.Session → Started
+startedOf (some s) = Fresh (record { n = s .n; number = s .number; count = s .count })
+startedOf none = Unstarted Size
+
+-- an answer carries the count after it
+abbrev pub told : Session → Reply → Delivered
+told s reply = record { next = s; reply = reply; count = s .count }
+
+abbrev pub raised : Session → Session
+raised s = record { n = s .n; number = s .number; count = s .count + 1 }
+
+-- what a gate's answer makes of the session
+abbrev pub countedOf : Session → Answer → Delivered
+countedOf s Taken = told (raised s) Taken′
+countedOf s (Value v) = told (raised s) (Value′ v)
+countedOf s (Refused r) = told s (Refused′ r)
+
+-- A delivery's whole contract: the next session, the reply, the count after it, and every place of both buffers.
+pub record Delivers (d : Book.Delivery) (answer : Delivered) (after : Buffers) : Type 0 where
+  pub next : meant (answer .next) ≡ d .next
+  pub reply : replies (answer .reply) ≡ d .says
+  pub count : answer .count ≡ d .next .count
+  pub leaves : after ≡ d .left

@@ -1,0 +1,150 @@
+// Sessions: each delivery takes the session and hands back the next one, with the answer. However often a record comes, it is run once.
+mod act;
+
+use act::act;
+use book::Answer;
+use book::Read;
+use book::Record;
+use book::Refusal;
+ghost use mathlib.Core.Path.{_≡_};
+ghost use Prim.Native.Nat.{_+_, _≤_, _<_, _^_};
+ghost use Rattle.book.specs.Answers.{buffers};
+ghost use Rattle.book.specs.Sessions.{takeRecord, deliver};
+ghost use Rattle.book.specs.Sessions as Book;
+ghost use Rattle.sessions.specs.Deliveries.{meant, startedOf, told, raised, countedOf, Delivers};
+
+// n qubits, the session's number, and the count of records taken.
+pub struct Session {
+    pub n: u32,
+    pub number: u32,
+    pub count: u16,
+}
+
+// What a delivery says.
+pub enum Reply {
+    Taken,
+    Value(u8),
+    Again,
+    Refused(Refusal),
+}
+
+// A delivery hands back the next session, its reply, and the count after it.
+pub struct Delivered {
+    pub next: Session,
+    pub reply: Reply,
+    pub count: u16,
+}
+
+// Starting a session gives one, or refusal 1.
+pub enum Started {
+    Fresh(Session),
+    Refused(Refusal),
+}
+
+// n is 1 to 24 for sessions.
+const MOST_QUBITS: u32 = 24;
+
+// Record numbers are 0 to 65,534.
+const FULL: u16 = 65535;
+
+impl Session {
+    pub fn start(n: u32, number: u32) -> Started
+        ensures { λ r. ⌜ r ≡ startedOf (Book.start n number) ⌝ }
+    {
+        if n < 1 {
+            return Started::Refused(Refusal::Size);
+        }
+        if MOST_QUBITS < n {
+            return Started::Refused(Refusal::Size);
+        }
+        Started::Fresh(Session {
+            n,
+            number,
+            count: 0,
+        })
+    }
+
+    // Nothing changes.
+    fn kept(self, reply: Reply) -> Delivered
+        ensures { λ r. ⌜ r ≡ told self reply ⌝ }
+    {
+        let count = self.count;
+        Delivered {
+            next: self,
+            reply,
+            count,
+        }
+    }
+
+    // A gate that was taken raises the count.
+    fn raised(self, reply: Reply) -> Delivered
+        requires { ⌜ self .count < 65535 ⌝ }
+        ensures { λ r. ⌜ r ≡ told (raised self) reply ⌝ }
+    {
+        let next = Session {
+            n: self.n,
+            number: self.number,
+            count: self.count + 1,
+        };
+        next.kept(reply)
+    }
+
+    // What the gate's answer makes of the session.
+    fn counted(self, answer: Answer) -> Delivered
+        requires { ⌜ self .count < 65535 ⌝ }
+        ensures { λ r. ⌜ r ≡ countedOf self answer ⌝ }
+    {
+        match answer {
+            Answer::Taken => self.raised(Reply::Taken),
+            Answer::Value(v) => self.raised(Reply::Value(v)),
+            Answer::Refused(refusal) => self.kept(Reply::Refused(refusal)),
+        }
+    }
+
+    // 9, 11; then AGAIN, 10, and only the next number goes on to the gate.
+    fn take_record(self, it: Record, reals: &mut [f64], imags: &mut [f64]) -> Delivered
+        ensures { λ r. ⌜ Delivers (takeRecord (meant self) (buffers (now (reals .entry)) (now (imags .entry))) it) r (buffers (now (reals .exit)) (now (imags .exit))) ⌝ }
+    {
+        if it.session != self.number {
+            return self.kept(Reply::Refused(Refusal::Session));
+        }
+        let at = it.number;
+        if at == FULL {
+            return self.kept(Reply::Refused(Refusal::Full));
+        }
+        let count = self.count;
+        if at < count {
+            return self.kept(Reply::Again);
+        }
+        if count < at {
+            return self.kept(Reply::Refused(Refusal::Early));
+        }
+        let gate = it.gate;
+        let answer = act(self.n, gate, reals, imags);
+        self.counted(answer)
+    }
+
+    // 1, 2 and 8, and then what the record does.
+    pub fn deliver(self, bytes: &[u8], reals: &mut [f64], imags: &mut [f64]) -> Delivered
+        ensures { λ r. ⌜ Delivers (deliver (meant self) (buffers (now (reals .entry)) (now (imags .entry))) (now (bytes .entry))) r (buffers (now (reals .exit)) (now (imags .exit))) ⌝ }
+    {
+        let n = self.n;
+        if n < 1 {
+            return self.kept(Reply::Refused(Refusal::Size));
+        }
+        if MOST_QUBITS < n {
+            return self.kept(Reply::Refused(Refusal::Size));
+        }
+        let size: usize = 1 << n;
+        if reals.len() != size {
+            return self.kept(Reply::Refused(Refusal::Length));
+        }
+        if imags.len() != size {
+            return self.kept(Reply::Refused(Refusal::Length));
+        }
+        let Read::Record(it) = reader::read_record(bytes) else {
+            return self.kept(Reply::Refused(Refusal::Record));
+        };
+        self.take_record(it, reals, imags)
+    }
+}
