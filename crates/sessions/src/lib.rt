@@ -3,12 +3,13 @@ mod act;
 
 use act::act;
 use book::Answer;
+use book::Gate;
 use book::Read;
 use book::Record;
 use book::Refusal;
 ghost use mathlib.Core.Path.{_≡_};
 ghost use Prim.Native.Nat.{_+_, _≤_, _<_, _^_};
-ghost use Rattle.book.specs.Answers.{buffers};
+ghost use Rattle.book.specs.Answers.{buffers, Does};
 ghost use Rattle.book.specs.Sessions.{takeRecord, deliver};
 ghost use Rattle.book.specs.Sessions as Book;
 ghost use Rattle.sessions.specs.Deliveries.{meant, startedOf, told, raised, countedOf, Delivers};
@@ -76,6 +77,18 @@ impl Session {
         }
     }
 
+    fn again(self) -> Delivered
+        ensures { λ r. ⌜ r ≡ told self Reply.Again ⌝ }
+    {
+        self.kept(Reply::Again)
+    }
+
+    fn refused(self, refusal: Refusal) -> Delivered
+        ensures { λ r. ⌜ r ≡ told self (Reply.Refused refusal) ⌝ }
+    {
+        self.kept(Reply::Refused(refusal))
+    }
+
     // A gate that was taken raises the count.
     fn raised(self, reply: Reply) -> Delivered
         requires { ⌜ self .count < 65535 ⌝ }
@@ -97,8 +110,15 @@ impl Session {
         match answer {
             Answer::Taken => self.raised(Reply::Taken),
             Answer::Value(v) => self.raised(Reply::Value(v)),
-            Answer::Refused(refusal) => self.kept(Reply::Refused(refusal)),
+            Answer::Refused(refusal) => self.refused(refusal),
         }
+    }
+
+    // The gate is run, whatever the count is.
+    fn run(self, gate: Gate, reals: &mut [f64], imags: &mut [f64]) -> Answer
+        ensures { λ r. ⌜ Does (Book.act (self .n) gate (buffers (now (reals .entry)) (now (imags .entry)))) r (buffers (now (reals .exit)) (now (imags .exit))) ⌝ }
+    {
+        act(self.n, gate, reals, imags)
     }
 
     // 9, 11; then AGAIN, 10, and only the next number goes on to the gate.
@@ -106,21 +126,21 @@ impl Session {
         ensures { λ r. ⌜ Delivers (takeRecord (meant self) (buffers (now (reals .entry)) (now (imags .entry))) it) r (buffers (now (reals .exit)) (now (imags .exit))) ⌝ }
     {
         if it.session != self.number {
-            return self.kept(Reply::Refused(Refusal::Session));
+            return self.refused(Refusal::Session);
         }
         let at = it.number;
         if at == FULL {
-            return self.kept(Reply::Refused(Refusal::Full));
+            return self.refused(Refusal::Full);
         }
         let count = self.count;
         if at < count {
-            return self.kept(Reply::Again);
+            return self.again();
         }
         if count < at {
-            return self.kept(Reply::Refused(Refusal::Early));
+            return self.refused(Refusal::Early);
         }
         let gate = it.gate;
-        let answer = act(self.n, gate, reals, imags);
+        let answer = self.run(gate, reals, imags);
         self.counted(answer)
     }
 
@@ -130,20 +150,20 @@ impl Session {
     {
         let n = self.n;
         if n < 1 {
-            return self.kept(Reply::Refused(Refusal::Size));
+            return self.refused(Refusal::Size);
         }
         if MOST_QUBITS < n {
-            return self.kept(Reply::Refused(Refusal::Size));
+            return self.refused(Refusal::Size);
         }
         let size: usize = 1 << n;
         if reals.len() != size {
-            return self.kept(Reply::Refused(Refusal::Length));
+            return self.refused(Refusal::Length);
         }
         if imags.len() != size {
-            return self.kept(Reply::Refused(Refusal::Length));
+            return self.refused(Refusal::Length);
         }
         let Read::Record(it) = reader::read_record(bytes) else {
-            return self.kept(Reply::Refused(Refusal::Record));
+            return self.refused(Refusal::Record);
         };
         self.take_record(it, reals, imags)
     }

@@ -20,8 +20,8 @@ raised-requires-2 c κs = search needs
 enum-known-answer-2 : tie.Need-enum-known-answer-2
 enum-known-answer-2 c = search needs
 
-kept-requires : tie.Need-kept-requires
-kept-requires c κs = search needs
+refused-requires : tie.Need-refused-requires
+refused-requires c κs = search needs
 
 returns : tie.Need-returns
 returns c = c .raised .ensures ∙ ap (countedOf _) (sym (c .before .enum-told .given .1))
@@ -30,7 +30,7 @@ returns-2 : tie.Need-returns-2
 returns-2 c = c .raised2 .ensures ∙ ap (countedOf _) (sym (c .before .before .answer .given .1))
 
 returns-3 : tie.Need-returns-3
-returns-3 c = c .kept .ensures ∙ ap (countedOf _) (sym (c .before .before .answer2 .given .1))
+returns-3 c = c .refused .ensures ∙ ap (countedOf _) (sym (c .before .before .answer2 .given .1))
 
 pub counted-spec : {M : Type 1} → statement M
 counted-spec =
@@ -41,7 +41,7 @@ counted-spec =
     enum-known-answer
     raised-requires-2
     enum-known-answer-2
-    kept-requires
+    refused-requires
     returns
     returns-2
     returns-3)

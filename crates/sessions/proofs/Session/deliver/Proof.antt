@@ -7,17 +7,17 @@ use Rattle.sessions.proofs.Steps.{small, large, wrong-length, reals-wro
 use Rattle.sessions.proofs.Session.deliver.Statement.{statement}
 use Rattle.sessions.proofs.Session.deliver.Tie as tie
 
-kept-requires : tie.Need-kept-requires
-kept-requires c κs = search needs
+refused-requires : tie.Need-refused-requires
+refused-requires c κs = search needs
 
 returns : tie.Need-returns
-returns c = small _ _ _ (c .before .if1 .taken) (c .kept .ensures)
+returns c = small _ _ _ (c .before .if1 .taken) (c .refused .ensures)
 
-kept-requires-2 : tie.Need-kept-requires-2
-kept-requires-2 c κs = search needs
+refused-requires-2 : tie.Need-refused-requires-2
+refused-requires-2 c κs = search needs
 
 returns-2 : tie.Need-returns-2
-returns-2 c = large _ _ _ (c .before .before .if1 .left) (c .before .if2 .taken) (c .kept2 .ensures)
+returns-2 c = large _ _ _ (c .before .before .if1 .left) (c .before .if2 .taken) (c .refused2 .ensures)
 
 cast-size : tie.Need-cast-size
 cast-size c = search needs
@@ -25,17 +25,17 @@ cast-size c = search needs
 shl-size : tie.Need-shl-size
 shl-size c = search needs
 
-kept-requires-3 : tie.Need-kept-requires-3
-kept-requires-3 c κs = search needs
+refused-requires-3 : tie.Need-refused-requires-3
+refused-requires-3 c κs = search needs
 
 returns-3 : tie.Need-returns-3
-returns-3 c = let at = c .before .before .before .before .before .before .before .args in let is = shl-is _ (c .before .before .if2 .left) in wrong-length _ _ _ (c .before .before .before .if1 .left) (c .before .before .if2 .left) (reals-wrong _ (buffers (at .reals .now) (at .imags .now)) (λ e. c .before .if3 .taken (e ∙ sym is))) (c .kept3 .ensures)
+returns-3 c = let at = c .before .before .before .before .before .before .before .args in let is = shl-is _ (c .before .before .if2 .left) in wrong-length _ _ _ (c .before .before .before .if1 .left) (c .before .before .if2 .left) (reals-wrong _ (buffers (at .reals .now) (at .imags .now)) (λ e. c .before .if3 .taken (e ∙ sym is))) (c .refused3 .ensures)
 
-kept-requires-4 : tie.Need-kept-requires-4
-kept-requires-4 c κs = search needs
+refused-requires-4 : tie.Need-refused-requires-4
+refused-requires-4 c κs = search needs
 
 returns-4 : tie.Need-returns-4
-returns-4 c = let at = c .before .before .before .before .before .before .before .before .args in let is = shl-is _ (c .before .before .before .if2 .left) in wrong-length _ _ _ (c .before .before .before .before .if1 .left) (c .before .before .before .if2 .left) (imags-wrong _ (buffers (at .reals .now) (at .imags .now)) (c .before .before .if3 .left ∙ is) (λ e. c .before .if4 .taken (e ∙ sym is))) (c .kept4 .ensures)
+returns-4 c = let at = c .before .before .before .before .before .before .before .before .args in let is = shl-is _ (c .before .before .before .if2 .left) in wrong-length _ _ _ (c .before .before .before .before .if1 .left) (c .before .before .before .if2 .left) (imags-wrong _ (buffers (at .reals .now) (at .imags .now)) (c .before .before .if3 .left ∙ is) (λ e. c .before .if4 .taken (e ∙ sym is))) (c .refused4 .ensures)
 
 read-record-requires : tie.Need-read-record-requires
 read-record-requires c κs = search needs
@@ -46,11 +46,11 @@ enum-known-it c = search needs
 enum-told : tie.Need-enum-told
 enum-told c = search needs
 
-kept-requires-5 : tie.Need-kept-requires-5
-kept-requires-5 c κs = search needs
+refused-requires-5 : tie.Need-refused-requires-5
+refused-requires-5 c κs = search needs
 
 returns-5 : tie.Need-returns-5
-returns-5 c = let at = c .before .before .before .before .before .before .before .before .before .before .before .args in let is = shl-is _ (c .before .before .before .before .before .before .if2 .left) in unread _ _ _ (c .before .before .before .before .before .before .before .if1 .left) (c .before .before .before .before .before .before .if2 .left) (lengths-right _ (buffers (at .reals .now) (at .imags .now)) (c .before .before .before .before .before .if3 .left ∙ is) (c .before .before .before .before .if4 .left ∙ is)) (c .before .enum-told .given .1) (c .before .before .before .read-record .ensures) (c .kept5 .ensures)
+returns-5 c = let at = c .before .before .before .before .before .before .before .before .before .before .before .args in let is = shl-is _ (c .before .before .before .before .before .before .if2 .left) in unread _ _ _ (c .before .before .before .before .before .before .before .if1 .left) (c .before .before .before .before .before .before .if2 .left) (lengths-right _ (buffers (at .reals .now) (at .imags .now)) (c .before .before .before .before .before .if3 .left ∙ is) (c .before .before .before .before .if4 .left ∙ is)) (c .before .enum-told .given .1) (c .before .before .before .read-record .ensures) (c .refused5 .ensures)
 
 take-record-requires : tie.Need-take-record-requires
 take-record-requires c κs = search needs
@@ -68,20 +68,20 @@ pub deliver-spec : {M : Type 1} → statement M
 deliver-spec =
     tie.close
     (tie.spec
-    kept-requires
+    refused-requires
     returns
-    kept-requires-2
+    refused-requires-2
     returns-2
     cast-size
     shl-size
-    kept-requires-3
+    refused-requires-3
     returns-3
-    kept-requires-4
+    refused-requires-4
     returns-4
     read-record-requires
     enum-known-it
     enum-told
-    kept-requires-5
+    refused-requires-5
     returns-5
     take-record-requires
     same-length
