@@ -81,12 +81,12 @@ module _ (n fixed : ℕ) (fits : n ≤ 24) (free : fixed + 1 < 2 ^ n) where
       elim (ℕ-discrete (v % 2) 1) [
         | yes h ↦ (v / 2, omega arith)
         | no h ↦
-          let w : ℕ = v / 2 in
-          let e : v ≡ w * 2 = omega arith in
-          let m : w * 2 ^ suc tail ≡ w * 2 * 2 ^ tail = ap (λ (p : ℕ). w * p) (pow-suc 2 tail ∙ mul-comm (2 ^ tail) 2) ∙ sym (mul-assoc w 2 (2 ^ tail)) in
-          let x : fixed + 1 ≡ w * 2 ^ suc tail = cut-tail ∙ ap (λ (z : ℕ). z * 2 ^ tail) e ∙ sym m in
-          let l : suc tail ≤ tail = trailing-most 64 (fixed + 1) (suc tail) w (omega (arith, tail-lt)) x in
-          absurd (omega arith)
+            let w : ℕ = v / 2 in
+            let e : v ≡ w * 2 = omega arith in
+            let m : w * 2 ^ suc tail ≡ w * 2 * 2 ^ tail = ap (λ (p : ℕ). w * p) (pow-suc 2 tail ∙ mul-comm (2 ^ tail) 2) ∙ sym (mul-assoc w 2 (2 ^ tail)) in
+            let x : fixed + 1 ≡ w * 2 ^ suc tail = cut-tail ∙ ap (λ (z : ℕ). z * 2 ^ tail) e ∙ sym m in
+            let l : suc tail ≤ tail = trailing-most 64 (fixed + 1) (suc tail) w (omega (arith, tail-lt)) x in
+            absurd (omega arith)
       ]
 
   module _ (stride : ℕ) (is : stride ≡ 2 ^ trailingZeros 64 (fixed + 1)) where
@@ -114,13 +114,16 @@ module _ (n fixed : ℕ) (fits : n ≤ 24) (free : fixed + 1 < 2 ^ n) where
     wide-small : all < 2 ^ suc n
     wide-small = omega (arith, more)
 
+    pub run-le : trailingZeros 64 (fixed - (stride - 1) + 2 ^ n) ≤ n
+    run-le = power-le all n (trailingZeros 64 all) (trailing-divides 64 all .0) (omega (arith, pow-pos n)) wide-small (trailing-divides 64 all .1)
+
     pub cut : (run : ℕ) → run ≡ 2 ^ trailingZeros 64 (fixed - (stride - 1) + 2 ^ n) → Cut n (fixed - (stride - 1)) run stride
     unfolding tail w
     cut run ir =
         let r : ℕ = trailingZeros 64 all in
         let z : ℕ = trailing-divides 64 all .0 in
         let div : all ≡ z * 2 ^ r = trailing-divides 64 all .1 in
-        let rn : r ≤ n = power-le all n r z (omega (arith, pow-pos n)) wide-small div in
+        let rn : r ≤ n = run-le in
         let q : ℕ = 2 ^ (n - r) in
         let whole : 2 ^ n ≡ q * 2 ^ r = pow-split r n rn in
         let qz : q ≤ z = le-of-mul-le-mul-right {m = q} {n = z} {k = 2 ^ r} (omega arith) (pow-pos r) in

@@ -14,6 +14,7 @@ pub mod Spaced
 pub mod Cuts
 pub mod Lending
 pub mod Turns
+pub mod Whole
 pub mod Halves
 pub mod Free
 pub mod Calls

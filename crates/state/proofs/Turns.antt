@@ -28,7 +28,7 @@ module _ {n wide run stride : ℕ} (c : Cut n wide run stride) where
   low-is : stride - 1 ≡ 2 ^ (c .k) - 1
   low-is = ap (λ (x : ℕ). x - 1) (c .stride-is)
 
-  stride-pos : 0 < stride
+  pub stride-pos : 0 < stride
   stride-pos = omega (arith, c .stride-is, pow-pos (c .k))
 
   stride-le : stride * 2 ≤ 2 ^ (c .r)
@@ -326,8 +326,7 @@ module _ {n wide run stride back0 back1 : ℕ} {b₀ : Buffers} (ok : Runs n wid
                   let o = cut-on (t .cut) (t .turn) v (omega (arith, t .cut .run-is)) (subst (Has (wide + (stride - 1))) e key) .1 in
                   let f = low-off (t .cut) v o in
                   let h : w ≡ u + (stride - 1) + (v - (stride - 1)) = omega (arith, f .0) in
-                  let m : v - (stride - 1) < k - (back0 - back1) = in-part v (f .0) vr in
-                  (
+                  let m : v - (stride - 1) < k - (back0 - back1) = in-part v (f .0) vr in (
                     v - (stride - 1),
                     record {
                       key = (f .1, m);
@@ -340,8 +339,7 @@ module _ {n wide run stride back0 back1 : ℕ} {b₀ : Buffers} (ok : Runs n wid
 
               back : (v : ℕ) → Spaced stride (k - (back0 - back1)) v → v < k - (back0 - back1) → (w : ℕ) × Same rule (Has (wide + (stride - 1))) (λ v. v - back0) (λ v. v - back1) (Spaced stride (k - (back0 - back1))) (λ i. a + i) (λ i. a + i + (back0 - back1)) u (u + run) 0 (k - (back0 - back1)) v w
               back v key y =
-                  let m : v < run - (stride - 1) = rw last-is at y in
-                  (
+                  let m : v < run - (stride - 1) = rw last-is at y in (
                     u + (stride - 1) + v,
                     record {
                       key = own v (key .0) m;
