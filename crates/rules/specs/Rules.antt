@@ -20,7 +20,17 @@ ruleOf Ry angle matrix = ryRule angle
 ruleOf Rz angle matrix = rzRule angle
 ruleOf U angle matrix = uRule matrix
 
--- the rules that need no F, by number
+-- the gates by number, those that need no F first
+abbrev pub codeOf : Rule → ℕ
+codeOf X = 0
+codeOf Y = 1
+codeOf H = 2
+codeOf Rx = 3
+codeOf Ry = 4
+codeOf Rz = 5
+codeOf U = 6
+
+-- the rules of those
 abbrev pub quickOf : ℕ → Angle → Pair → Pair
 quickOf zero angle = xRule
 quickOf (suc zero) angle = yRule

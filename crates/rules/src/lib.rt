@@ -8,7 +8,7 @@ use fused::fused;
 ghost use mathlib.Core.Path.{_≡_};
 ghost use Rattle.book.specs.Gates as Gates;
 ghost use Rattle.book.specs.Gates.{xRule, yRule, hRule, rxRule, ryRule, rzRule, uMatrix, uRule};
-ghost use Rattle.rules.specs.Rules.{ruleOf, quickOf, zUpper, pUpper, upperOf};
+ghost use Rattle.rules.specs.Rules.{ruleOf, codeOf, quickOf, zUpper, pUpper, upperOf};
 
 // The gates that change both places of a pair.
 pub enum Rule {
@@ -201,7 +201,22 @@ pub fn put(rule: Rule, angle: Angle, matrix: Matrix, p: Pair) -> Pair
     }
 }
 
-// The gates on pairs that need no F, by number: X, Y, H, RX, RY. A call with a literal leaves one rule to compile.
+// The number of a gate; those that need no F come first.
+pub fn code(rule: Rule) -> u32
+    ensures { λ r. ⌜ r ≡ codeOf rule ⌝ }
+{
+    match rule {
+        Rule::X => 0,
+        Rule::Y => 1,
+        Rule::H => 2,
+        Rule::Rx => 3,
+        Rule::Ry => 4,
+        Rule::Rz => 5,
+        Rule::U => 6,
+    }
+}
+
+// The rule of a gate that needs no F, by the gate's number: a call with a literal leaves one rule to compile.
 pub fn put_quick(rule: u32, angle: Angle, p: Pair) -> Pair
     ensures { λ r. ⌜ r ≡ quickOf rule angle p ⌝ }
 {

@@ -21,11 +21,11 @@ wideOf fixed = fixed - (strideOf fixed - 1)
 abbrev pub runOf : ℕ → ℕ → ℕ
 runOf n fixed = shl (trailingZeros 64 (wideOf fixed + shl n))
 
-module _ {n fixed back0 back1 : ℕ} {b : Buffers} (ok : Keyed n fixed back0 back1 b) (free : fixed + 1 < 2 ^ n) where
-  pub small : 2 ^ n ≤ 2 ^ 24
-  small = pow-le n 24 (ok .fits)
+pub few : {n fixed back0 back1 : ℕ} {b : Buffers} → Keyed n fixed back0 back1 b → 2 ^ n ≤ 2 ^ 24
+few {n} ok = pow-le n 24 (ok .fits)
 
-  pub size-is : shl n ≡ 2 ^ n
+module _ {n fixed back0 back1 : ℕ} {b : Buffers} (ok : Keyed n fixed back0 back1 b) (free : fixed + 1 < 2 ^ n) where
+  size-is : shl n ≡ 2 ^ n
   size-is = shl-is n (ok .fits)
 
   pub tail-le : trailingZeros 64 (fixed + 1) ≤ 24

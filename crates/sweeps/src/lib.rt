@@ -10,7 +10,9 @@ use book::Controls;
 use book::Matrix;
 use keys::by_keys;
 use rules::Rule;
-use runs::by_runs;
+use runs::dense;
+use runs::neighbours;
+use runs::short;
 ghost use Prim.Native.Nat.{_≤_};
 ghost use Rattle.book.specs.Answers.{buffers, Does};
 ghost use Rattle.book.specs.Gates.{pairGate};
@@ -21,7 +23,14 @@ ghost use Rattle.state.specs.Pairs.{Keyed, Swept};
 // A mask has 32 bits.
 const ANY: u32 = 32;
 
-// Run by run, with the gate chosen outside the loops; key by key for the gates that need F, and where one pair is all.
+// From this length on a run is left to the compiler's own joining of turns.
+const LONG: usize = 32;
+
+// The last number of a gate that needs no F.
+const QUICK: u32 = 4;
+
+// Run by run where neighbouring keys or places allow it, and else key by key. The fixed bits are cut in two: the ones that they
+// end in give the stride, and the lowest bit of the rest the length of a run.
 fn sweep(
     reals: &mut [f64],
     imags: &mut [f64],
@@ -37,29 +46,35 @@ fn sweep(
     ensures { λ _. ⌜ Swept (ruleOf rule angle matrix) n fixed back0 back1 (buffers (now (reals .entry)) (now (imags .entry))) (buffers (now (reals .exit)) (now (imags .exit))) ⌝ }
 {
     let size: usize = 1 << n;
+    let code = rules::code(rule);
+    if QUICK < code {
+        by_keys(reals, imags, n, fixed, back0, back1, rule, angle, matrix);
+        return;
+    }
     if fixed + 1 == size {
         by_keys(reals, imags, n, fixed, back0, back1, rule, angle, matrix);
         return;
     }
-    match rule {
-        Rule::X => by_runs(reals, imags, n, fixed, back0, back1, 0, angle),
-        Rule::Y => by_runs(reals, imags, n, fixed, back0, back1, 1, angle),
-        Rule::H => by_runs(reals, imags, n, fixed, back0, back1, 2, angle),
-        Rule::Rx => by_runs(reals, imags, n, fixed, back0, back1, 3, angle),
-        Rule::Ry => by_runs(reals, imags, n, fixed, back0, back1, 4, angle),
-        Rule::Rz => by_keys(
-            reals,
-            imags,
-            n,
-            fixed,
-            back0,
-            back1,
-            Rule::Rz,
-            angle,
-            matrix,
-        ),
-        Rule::U => by_keys(reals, imags, n, fixed, back0, back1, Rule::U, angle, matrix),
+    let k = usize::trailing_zeros(fixed + 1);
+    let stride: usize = 1 << k;
+    let wide = fixed - (stride - 1);
+    let r = usize::trailing_zeros(wide + size);
+    let run: usize = 1 << r;
+    if stride == 1 {
+        if run < LONG {
+            short(reals, imags, n, wide, run, back0, back1, code, angle);
+            return;
+        }
+        dense(reals, imags, n, wide, run, back0, back1, code, angle);
+        return;
     }
+    if stride == 2 {
+        if back0 == 1 {
+            neighbours(reals, imags, n, wide, run, code, angle);
+            return;
+        }
+    }
+    by_keys(reals, imags, n, fixed, back0, back1, rule, angle, matrix);
 }
 
 // A gate on pairs, from its rule, the numbers that the rule is fed, how many controls it takes, and the numbers that test 6 judges.

@@ -5,14 +5,11 @@ use super::pairs::write_pair;
 use super::pairs::write_two;
 use book::Angle;
 use rules::put_quick;
-ghost use Prim.Native.Nat.{_+_, _-_, _^_, _<_};
+ghost use Prim.Native.Nat.{_+_, _-_};
 ghost use Rattle.book.specs.Answers.{buffers};
 ghost use Rattle.rules.specs.Rules.{quickOf};
-ghost use Rattle.state.specs.Pairs.{Keyed, Swept};
+ghost use Rattle.state.specs.Pairs.{Swept};
 ghost use Rattle.state.specs.Runs.{Run, Ran, Runs};
-
-// From this length on a run is left to the compiler's own joining of turns.
-const LONG: usize = 32;
 
 // One pair at a turn, at each stride-th place.
 fn along(reals: &mut [f64], imags: &mut [f64], d: usize, stride: usize, rule: u32, angle: Angle)
@@ -104,7 +101,7 @@ fn runs(
 }
 
 // Neighbouring keys, in long runs.
-fn dense(
+pub(crate) fn dense(
     reals: &mut [f64],
     imags: &mut [f64],
     n: u32,
@@ -128,7 +125,7 @@ fn dense(
 }
 
 // Neighbouring keys, in short runs.
-fn short(
+pub(crate) fn short(
     reals: &mut [f64],
     imags: &mut [f64],
     n: u32,
@@ -152,7 +149,7 @@ fn short(
 }
 
 // Each second key, with neighbouring places: target 0.
-fn neighbours(
+pub(crate) fn neighbours(
     reals: &mut [f64],
     imags: &mut [f64],
     n: u32,
@@ -171,137 +168,4 @@ fn neighbours(
         3 => runs(reals, imags, n, wide, run, 2, 1, 0, true, 3, angle),
         _ => runs(reals, imags, n, wide, run, 2, 1, 0, true, 4, angle),
     }
-}
-
-// Keys further apart: qubit 0 is a control, or target 0 and qubit 1 one.
-fn strided(
-    reals: &mut [f64],
-    imags: &mut [f64],
-    n: u32,
-    wide: usize,
-    run: usize,
-    stride: usize,
-    back0: usize,
-    back1: usize,
-    rule: u32,
-    angle: Angle,
-)
-    requires { ⌜ Runs n wide run stride back0 back1 (buffers (now reals) (now imags)) ⌝ }
-    ensures { λ _. ⌜ Swept (quickOf rule angle) n (wide + (stride - 1)) back0 back1 (buffers (now (reals .entry)) (now (imags .entry))) (buffers (now (reals .exit)) (now (imags .exit))) ⌝ }
-{
-    match rule {
-        0 => runs(
-            reals,
-            imags,
-            n,
-            wide,
-            run,
-            stride,
-            back0,
-            back1,
-            false,
-            0,
-            angle,
-        ),
-        1 => runs(
-            reals,
-            imags,
-            n,
-            wide,
-            run,
-            stride,
-            back0,
-            back1,
-            false,
-            1,
-            angle,
-        ),
-        2 => runs(
-            reals,
-            imags,
-            n,
-            wide,
-            run,
-            stride,
-            back0,
-            back1,
-            false,
-            2,
-            angle,
-        ),
-        3 => runs(
-            reals,
-            imags,
-            n,
-            wide,
-            run,
-            stride,
-            back0,
-            back1,
-            false,
-            3,
-            angle,
-        ),
-        _ => runs(
-            reals,
-            imags,
-            n,
-            wide,
-            run,
-            stride,
-            back0,
-            back1,
-            false,
-            4,
-            angle,
-        ),
-    }
-}
-
-// The fixed bits cut in two: the ones that they end in give the stride, and the lowest bit of the rest the length of a run.
-pub(crate) fn by_runs(
-    reals: &mut [f64],
-    imags: &mut [f64],
-    n: u32,
-    fixed: usize,
-    back0: usize,
-    back1: usize,
-    rule: u32,
-    angle: Angle,
-)
-    requires { ⌜ Keyed n fixed back0 back1 (buffers (now reals) (now imags)) × (fixed + 1 < 2 ^ n) ⌝ }
-    ensures { λ _. ⌜ Swept (quickOf rule angle) n fixed back0 back1 (buffers (now (reals .entry)) (now (imags .entry))) (buffers (now (reals .exit)) (now (imags .exit))) ⌝ }
-{
-    let size: usize = 1 << n;
-    let k = usize::trailing_zeros(fixed + 1);
-    let stride: usize = 1 << k;
-    let wide = fixed - (stride - 1);
-    let r = usize::trailing_zeros(wide + size);
-    let run: usize = 1 << r;
-    if stride == 1 {
-        if run < LONG {
-            short(reals, imags, n, wide, run, back0, back1, rule, angle);
-            return;
-        }
-        dense(reals, imags, n, wide, run, back0, back1, rule, angle);
-        return;
-    }
-    if stride == 2 {
-        if back0 == 1 {
-            neighbours(reals, imags, n, wide, run, rule, angle);
-            return;
-        }
-    }
-    strided(
-        reals,
-        imags,
-        n,
-        wide,
-        run,
-        stride,
-        back0,
-        back1,
-        rule,
-        angle,
-    );
 }
