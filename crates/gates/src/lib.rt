@@ -1,7 +1,4 @@
 // The kernels of gates.rs over two lent buffers, with 01's refusals. Each call is judged first; then its gate's rule is put to each chosen pair.
-mod sweeps;
-mod uppers;
-
 use book::Amplitude;
 use book::Angle;
 use book::Angles;
@@ -11,8 +8,9 @@ use book::Matrix;
 use book::Noise;
 use rules::Rule;
 use rules::Upper;
-use sweeps::sweep;
-use uppers::turn_blocks;
+use sweeps::on_pairs;
+use sweeps::swap_bits;
+use uppers::on_uppers;
 ghost use Prim.Native.Nat.{_≤_};
 ghost use Rattle.book.specs.Answers.{buffers, Does};
 ghost use Rattle.book.specs.Gates.{any, pairGate, xGate, yGate, zGate, hGate, pGate, rxGate, ryGate, rzGate, uGate};
@@ -21,51 +19,6 @@ ghost use Rattle.rules.specs.Rules.{ruleOf, upperRule};
 
 // A mask has 32 bits.
 const ANY: u32 = 32;
-
-// A gate on pairs, from its rule, the numbers that the rule is fed, how many controls it takes, and the numbers that test 6 judges.
-fn run(
-    reals: &mut [f64],
-    imags: &mut [f64],
-    n: u32,
-    target: u32,
-    controls: Controls,
-    most: u32,
-    numbers: &[f64],
-    rule: Rule,
-    angle: Angle,
-    matrix: Matrix,
-) -> Answer
-    ensures { λ r. ⌜ Does (kernel (pairGate (ruleOf rule angle matrix) most (now (numbers .entry))) n target controls (buffers (now (reals .entry)) (now (imags .entry)))) r (buffers (now (reals .exit)) (now (imags .exit))) ⌝ }
-{
-    let answer = state::judge(reals, imags, n, target, controls, most, numbers);
-    if let Answer::Taken = answer {
-        let bit: usize = 1 << target;
-        let fixed = controls.ones as usize + bit;
-        sweep(reals, imags, n, fixed, bit, 0, rule, angle, matrix);
-    }
-    answer
-}
-
-// The same for a gate that leaves s0 as it is.
-fn run_upper(
-    reals: &mut [f64],
-    imags: &mut [f64],
-    n: u32,
-    target: u32,
-    controls: Controls,
-    most: u32,
-    numbers: &[f64],
-    upper: Upper,
-    angle: Angle,
-) -> Answer
-    ensures { λ r. ⌜ Does (kernel (pairGate (upperRule upper angle) most (now (numbers .entry))) n target controls (buffers (now (reals .entry)) (now (imags .entry)))) r (buffers (now (reals .exit)) (now (imags .exit))) ⌝ }
-{
-    let answer = state::judge(reals, imags, n, target, controls, most, numbers);
-    if let Answer::Taken = answer {
-        turn_blocks(reals, imags, n, target, controls, upper, angle);
-    }
-    answer
-}
 
 // What a rule is fed that takes no angle, or no matrix.
 fn no_angle() -> Angle {
@@ -90,7 +43,7 @@ pub fn x_apply(
 ) -> Answer
     ensures { λ r. ⌜ Does (kernel xGate n target controls (buffers (now (reals .entry)) (now (imags .entry)))) r (buffers (now (reals .exit)) (now (imags .exit))) ⌝ }
 {
-    run(
+    on_pairs(
         reals,
         imags,
         n,
@@ -114,7 +67,7 @@ pub fn y_apply(
 ) -> Answer
     ensures { λ r. ⌜ Does (kernel yGate n target controls (buffers (now (reals .entry)) (now (imags .entry)))) r (buffers (now (reals .exit)) (now (imags .exit))) ⌝ }
 {
-    run(
+    on_pairs(
         reals,
         imags,
         n,
@@ -138,7 +91,7 @@ pub fn z_apply(
 ) -> Answer
     ensures { λ r. ⌜ Does (kernel zGate n target controls (buffers (now (reals .entry)) (now (imags .entry)))) r (buffers (now (reals .exit)) (now (imags .exit))) ⌝ }
 {
-    run_upper(
+    on_uppers(
         reals,
         imags,
         n,
@@ -161,7 +114,7 @@ pub fn h_apply(
 ) -> Answer
     ensures { λ r. ⌜ Does (kernel hGate n target controls (buffers (now (reals .entry)) (now (imags .entry)))) r (buffers (now (reals .exit)) (now (imags .exit))) ⌝ }
 {
-    run(
+    on_pairs(
         reals,
         imags,
         n,
@@ -186,7 +139,7 @@ pub fn p_apply(
 ) -> Answer
     ensures { λ r. ⌜ Does (kernel (pGate angle) n target controls (buffers (now (reals .entry)) (now (imags .entry)))) r (buffers (now (reals .exit)) (now (imags .exit))) ⌝ }
 {
-    run_upper(
+    on_uppers(
         reals,
         imags,
         n,
@@ -210,7 +163,7 @@ pub fn rx_apply(
 ) -> Answer
     ensures { λ r. ⌜ Does (kernel (rxGate angle) n target controls (buffers (now (reals .entry)) (now (imags .entry)))) r (buffers (now (reals .exit)) (now (imags .exit))) ⌝ }
 {
-    run(
+    on_pairs(
         reals,
         imags,
         n,
@@ -235,7 +188,7 @@ pub fn ry_apply(
 ) -> Answer
     ensures { λ r. ⌜ Does (kernel (ryGate angle) n target controls (buffers (now (reals .entry)) (now (imags .entry)))) r (buffers (now (reals .exit)) (now (imags .exit))) ⌝ }
 {
-    run(
+    on_pairs(
         reals,
         imags,
         n,
@@ -260,7 +213,7 @@ pub fn rz_apply(
 ) -> Answer
     ensures { λ r. ⌜ Does (kernel (rzGate angle) n target controls (buffers (now (reals .entry)) (now (imags .entry)))) r (buffers (now (reals .exit)) (now (imags .exit))) ⌝ }
 {
-    run(
+    on_pairs(
         reals,
         imags,
         n,
@@ -296,7 +249,7 @@ pub fn u_apply(
         angles.sp,
     ];
     let matrix = rules::u_matrix(angles);
-    run(
+    on_pairs(
         reals,
         imags,
         n,
@@ -310,41 +263,11 @@ pub fn u_apply(
     )
 }
 
-// SWAP of two qubits of which the first is not the higher: the places that have both bits are the keys of the pairs to exchange.
-fn exchange(reals: &mut [f64], imags: &mut [f64], n: u32, low: u32, high: u32) -> Answer
-    requires { ⌜ low ≤ high ⌝ }
-    ensures { λ r. ⌜ Does (swap n low high (buffers (now (reals .entry)) (now (imags .entry)))) r (buffers (now (reals .exit)) (now (imags .exit))) ⌝ }
-{
-    let answer = state::judge(reals, imags, n, high, Controls { ones: 0 }, ANY, &[]);
-    if let Answer::Taken = answer {
-        if low == high {
-            return answer;
-        }
-        let bit0: usize = 1 << low;
-        let bit1: usize = 1 << high;
-        sweep(
-            reals,
-            imags,
-            n,
-            bit0 + bit1,
-            bit1,
-            bit0,
-            Rule::X,
-            no_angle(),
-            no_matrix(),
-        );
-    }
-    answer
-}
-
 // Amplitudes exchanged whose indices differ by exchanging the bits t0 and t1; a qubit with itself changes nothing.
 pub fn swap_apply(reals: &mut [f64], imags: &mut [f64], n: u32, t0: u32, t1: u32) -> Answer
     ensures { λ r. ⌜ Does (swap n t0 t1 (buffers (now (reals .entry)) (now (imags .entry)))) r (buffers (now (reals .exit)) (now (imags .exit))) ⌝ }
 {
-    if t1 < t0 {
-        return exchange(reals, imags, n, t1, t0);
-    }
-    exchange(reals, imags, n, t0, t1)
+    swap_bits(reals, imags, n, t0, t1)
 }
 
 // X without controls if draw <= prob, else nothing; the answer is 1 if X ran, 0 if not.

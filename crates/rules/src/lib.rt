@@ -8,7 +8,7 @@ use fused::fused;
 ghost use mathlib.Core.Path.{_≡_};
 ghost use Rattle.book.specs.Gates as Gates;
 ghost use Rattle.book.specs.Gates.{xRule, yRule, hRule, rxRule, ryRule, rzRule, uMatrix, uRule};
-ghost use Rattle.rules.specs.Rules.{ruleOf, zUpper, pUpper, upperOf};
+ghost use Rattle.rules.specs.Rules.{ruleOf, codeOf, quickOf, zUpper, pUpper, upperOf};
 
 // The gates that change both places of a pair.
 pub enum Rule {
@@ -198,6 +198,34 @@ pub fn put(rule: Rule, angle: Angle, matrix: Matrix, p: Pair) -> Pair
         Rule::Ry => ry_rule(angle, p),
         Rule::Rz => rz_rule(angle, p),
         Rule::U => u_rule(matrix, p),
+    }
+}
+
+// The number of a gate; those that need no F come first.
+pub fn code(rule: Rule) -> u32
+    ensures { λ r. ⌜ r ≡ codeOf rule ⌝ }
+{
+    match rule {
+        Rule::X => 0,
+        Rule::Y => 1,
+        Rule::H => 2,
+        Rule::Rx => 3,
+        Rule::Ry => 4,
+        Rule::Rz => 5,
+        Rule::U => 6,
+    }
+}
+
+// The rule of a gate that needs no F, by the gate's number: a call with a literal leaves one rule to compile.
+pub fn put_quick(rule: u32, angle: Angle, p: Pair) -> Pair
+    ensures { λ r. ⌜ r ≡ quickOf rule angle p ⌝ }
+{
+    match rule {
+        0 => x_rule(p),
+        1 => y_rule(p),
+        2 => h_rule(p),
+        3 => rx_rule(angle, p),
+        _ => ry_rule(angle, p),
     }
 }
 

@@ -10,7 +10,11 @@ pub mod Finite
 pub mod Refusals
 pub mod Answers
 pub mod Judged
+pub mod Spaced
+pub mod Cuts
 pub mod Lending
+pub mod Turns
+pub mod Whole
 pub mod Halves
 pub mod Free
 pub mod Calls

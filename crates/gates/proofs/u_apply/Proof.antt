@@ -6,7 +6,7 @@ use Rattle.gates.proofs.u_apply.Tie as tie
 returns : tie.Need-returns
 returns c =
     let ran = c .before .before .before .before in
-    rw (ran .before .before .before .before .before .u-matrix .ensures) at (ran .run .ensures)
+    rw (ran .before .before .before .before .before .u-matrix .ensures) at (ran .on-pairs .ensures)
 
 pub u-apply-spec : {M : Type 1} → statement M
 u-apply-spec =

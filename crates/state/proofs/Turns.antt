@@ -1,0 +1,363 @@
+-- The keys gone over run by run, for any rule: u is the start of a run, and one lent part of both buffers has its pairs. Assumes nothing.
+use Prim.Native.Nat.{ℕ, zero, suc, _+_, _-_, _*_, _/_, _%_, _^_, _≤_, _<_}
+use mathlib.Core.Logic.{_⊎_, inl, inr, ⊎-elim}
+use mathlib.Core.Path.{_≡_, refl, sym, ap, ap₂, _∙_, subst}
+use native.Mathlib.Decide.{decLt}
+use native.Mathlib.Nat.{mul-assoc, mul-comm, add-mul, one-mul, pow-suc, le-div-iff-mul-le, mod-lt, lt-of-mul-lt-mul-right, mul-le-mul-right, div-add-mod', mul-mod-left, zero-mod}
+use native.Mathlib.Omega.{arith}
+use borrow.Author.Needs.{zero≤}
+use lib.Bits.{bitAnd, bitOr, and-self, and-le-l, and-le-r, or-zero-r, and-mask, and-block, or-block}
+use lib.ListN.{length}
+use lib.Pow as Pow
+use lib.Pow.{pow-pos, pow-mono, split, high}
+use Rattle.book.specs.Answers.{Buffers}
+use Rattle.book.specs.State.{State, at, pair}
+use Rattle.book.specs.declared.Pair.{Pair}
+use Rattle.state.specs.Pairs.{SameSize, Paired, Has, Keyed, Swept}
+use Rattle.state.specs.Runs.{Spaced, lastOf, Run, Ran, Cut, Runs}
+use Rattle.state.proofs.Bits.{or-ge, or-covers, next-least}
+use Rattle.state.proofs.Cuts.{pow-split}
+use Rattle.state.proofs.Keys.{key-ge, apart}
+use Rattle.state.proofs.Lending.{lent, returned, lent-reals, lent-imags, lent-place, back-same, back-inside, back-before, back-after}
+use Rattle.state.proofs.Loop.{nothing, join, Same, Same′, renumber}
+use Rattle.state.proofs.Shifts.{pow-le}
+use Rattle.state.proofs.Spaced.{gap}
+
+-- ---- which numbers of a run are keys
+module _ {n wide run stride : ℕ} (c : Cut n wide run stride) where
+  low-is : stride - 1 ≡ 2 ^ (c .k) - 1
+  low-is = ap (λ (x : ℕ). x - 1) (c .stride-is)
+
+  pub stride-pos : 0 < stride
+  stride-pos = omega (arith, c .stride-is, pow-pos (c .k))
+
+  stride-le : stride * 2 ≤ 2 ^ (c .r)
+  stride-le = omega (arith, c .stride-is, pow-suc 2 (c .k), pow-mono {i = suc (c .k)} {j = c .r} (c .below))
+
+  low-lt : stride - 1 < 2 ^ (c .r)
+  low-lt = omega (arith, stride-le, stride-pos)
+
+  -- the ones below stride, in a number and in its distance to them
+  low-on : (j : ℕ) → j % stride ≡ 0 → bitAnd (stride - 1 + j) (stride - 1) ≡ stride - 1
+  low-on j z =
+      let q : ℕ = j / stride in
+      let e : q * stride ≡ j = omega (arith, div-add-mod' j stride) in
+      let e′ : stride - 1 + j ≡ q * 2 ^ (c .k) + (stride - 1) = omega (arith, ap (λ (x : ℕ). q * x) (c .stride-is)) in
+      ap (bitAnd (stride - 1 + j)) low-is ∙ and-mask (stride - 1 + j) (c .k) ∙ ap (λ (x : ℕ). x % 2 ^ (c .k)) e′
+      ∙ Pow.low q (c .k) {lo = stride - 1} (omega (arith, c .stride-is, pow-pos (c .k)))
+
+  low-off : (v : ℕ) → bitAnd v (stride - 1) ≡ stride - 1 → (stride - 1 ≤ v) × ((v - (stride - 1)) % stride ≡ 0)
+  low-off v e =
+      let o : v % 2 ^ (c .k) ≡ stride - 1 = sym (and-mask v (c .k)) ∙ ap (bitAnd v) (sym low-is) ∙ e in
+      let d : v / 2 ^ (c .k) * 2 ^ (c .k) + v % 2 ^ (c .k) ≡ v = split v (c .k) in
+      let m : v - (stride - 1) ≡ v / 2 ^ (c .k) * stride = omega (arith, ap (λ (x : ℕ). v / 2 ^ (c .k) * x) (c .stride-is)) in
+      (omega arith, ap (λ (x : ℕ). x % stride) m ∙ mul-mod-left (v / 2 ^ (c .k)) stride)
+
+  abbrev fixed : ℕ
+  fixed = wide + (stride - 1)
+
+  fixed-is : c .y * 2 ^ (c .r) + (stride - 1) ≡ wide + (stride - 1)
+  fixed-is = omega (arith, c .wide-is)
+
+  run-on : (x j : ℕ) → bitAnd x (c .y) ≡ c .y → stride - 1 + j < 2 ^ (c .r) → j % stride ≡ 0 → Has (wide + (stride - 1)) (x * 2 ^ (c .r) + (stride - 1 + j))
+  run-on x j e l z =
+      subst (λ (f : ℕ). bitAnd (x * 2 ^ (c .r) + (stride - 1 + j)) f ≡ f) fixed-is
+      (and-block (c .r) x (c .y) (stride - 1 + j) (stride - 1) l low-lt ∙ ap₂ (λ (p q : ℕ). p * 2 ^ (c .r) + q) e (low-on j z))
+
+  cut-on : (x v : ℕ) → v < 2 ^ (c .r) → Has (wide + (stride - 1)) (x * 2 ^ (c .r) + v) → (bitAnd x (c .y) ≡ c .y) × (bitAnd v (stride - 1) ≡ stride - 1)
+  cut-on x v l e =
+      let b = and-block (c .r) x (c .y) v (stride - 1) l low-lt in
+      let e′ : bitAnd (x * 2 ^ (c .r) + v) (c .y * 2 ^ (c .r) + (stride - 1)) ≡ c .y * 2 ^ (c .r) + (stride - 1) =
+      subst (λ (f : ℕ). bitAnd (x * 2 ^ (c .r) + v) f ≡ f) (sym fixed-is) e in
+      let s : bitAnd x (c .y) * 2 ^ (c .r) + bitAnd v (stride - 1) ≡ c .y * 2 ^ (c .r) + (stride - 1) = sym b ∙ e′ in
+      let h : bitAnd x (c .y) ≡ c .y =
+      sym (high (bitAnd x (c .y)) (c .r) {lo = bitAnd v (stride - 1)} (omega (arith, and-le-r v (stride - 1), low-lt)))
+      ∙ ap (λ (w : ℕ). w / 2 ^ (c .r)) s ∙ high (c .y) (c .r) {lo = stride - 1} low-lt in
+      let s′ : c .y * 2 ^ (c .r) + bitAnd v (stride - 1) ≡ c .y * 2 ^ (c .r) + (stride - 1) = rw h at s in
+      (h, omega arith)
+
+  -- the next run's start, and that no key lies before it
+  next-is : (x u : ℕ) → u ≡ x * 2 ^ (c .r) → bitOr (u + run) wide ≡ bitOr (x + 1) (c .y) * 2 ^ (c .r)
+  next-is x u h =
+      let m : u + run ≡ (x + 1) * 2 ^ (c .r) + 0 = omega (arith, c .run-is, add-mul x 1 (2 ^ (c .r)), one-mul (2 ^ (c .r))) in
+      let k : wide ≡ c .y * 2 ^ (c .r) + 0 = omega (arith, c .wide-is) in
+      ap₂ bitOr m k ∙ or-block (c .r) (x + 1) (c .y) 0 0 (pow-pos (c .r)) (pow-pos (c .r)) ∙ omega (arith, or-zero-r 0)
+
+  next-run : (x w : ℕ) → bitAnd x (c .y) ≡ c .y → Has (wide + (stride - 1)) w → x * 2 ^ (c .r) + 2 ^ (c .r) ≤ w → bitOr (x + 1) (c .y) * 2 ^ (c .r) ≤ w
+  next-run x w e f l =
+      let z : ℕ = w / 2 ^ (c .r) in
+      let v : ℕ = w % 2 ^ (c .r) in
+      let sp : z * 2 ^ (c .r) + v ≡ w = split w (c .r) in
+      let k : bitAnd z (c .y) ≡ c .y = cut-on z v (mod-lt w (pow-pos (c .r))) (subst (Has (wide + (stride - 1))) (sym sp) f) .0 in
+      let g : x + 1 ≤ z = le-div-iff-mul-le (pow-pos (c .r)) .1 (omega (arith, add-mul x 1 (2 ^ (c .r)), one-mul (2 ^ (c .r)))) in
+      omega (arith, mul-le-mul-right (2 ^ (c .r)) (next-least x (c .y) z e k (let h : x < z = omega arith in h)))
+
+  run-room : (x u : ℕ) → u ≡ x * 2 ^ (c .r) → u < 2 ^ n → u + run ≤ 2 ^ n
+  run-room x u h l =
+      let p : 2 ^ n ≡ 2 ^ (n - c .r) * 2 ^ (c .r) = pow-split (c .r) n (c .within) in
+      let xl : x < 2 ^ (n - c .r) = lt-of-mul-lt-mul-right (2 ^ (c .r)) (omega arith) in
+      omega (arith, c .run-is, mul-le-mul-right {m = x + 1} {n = 2 ^ (n - c .r)} (2 ^ (c .r)) (omega arith), add-mul x 1 (2 ^ (c .r)), one-mul (2 ^ (c .r)))
+
+  -- the pairs of a run go by twos
+  run-even : (i : ℕ) → i % (stride * 2) ≡ 0 → i < run - (stride - 1) → i + stride < run - (stride - 1)
+  run-even i z l =
+      let k : ℕ = c .k in
+      let p : 2 ^ (c .r) ≡ 2 ^ (c .r - suc k) * 2 ^ suc k = pow-split (suc k) (c .r) (c .below) in
+      let q : 2 ^ suc k ≡ stride * 2 = pow-suc 2 k ∙ ap (λ (x : ℕ). x * 2) (sym (c .stride-is)) in
+      let m : run % (stride * 2) ≡ 0 =
+      ap (λ (x : ℕ). x % (stride * 2)) (c .run-is ∙ p ∙ ap (λ (x : ℕ). 2 ^ (c .r - suc k) * x) q) ∙ mul-mod-left (2 ^ (c .r - suc k)) (stride * 2) in
+      omega (arith, gap (stride * 2) i run z m (omega arith), stride-pos)
+
+-- ---- a part that was lent from a on and came back with the rule put to its pairs
+module _ (rule : Pair → Pair) (Key : ℕ → Type 0) (d a k : ℕ) (b p : Buffers) (fr : a + k ≤ length (b .reals)) (fi : a + k ≤ length (b .imags)) (same : SameSize (lent a k b) p)
+    (dk : d ≤ k) where
+  lift : ((i : ℕ) → Key i → i < k - d) → Paired rule Key (λ i. i) (λ i. i + d) 0 (k - d) (at (lent a k b)) (at p)
+      → Paired rule Key (λ i. a + i) (λ i. a + i + d) 0 (k - d) (at b) (at (returned a k b p))
+  lift below q =
+      record {
+        lower = λ j key x y. back-inside a k b fr fi p same j (omega arith) ∙ q .lower j key x y ∙ ap (λ (z : Pair). rule z .s0) (read j y);
+        upper = λ j key x y. ap (at (returned a k b p)) (sym (far j)) ∙ back-inside a k b fr fi p same (j + d) (omega arith) ∙ q .upper j key x y
+            ∙ ap (λ (z : Pair). rule z .s1) (read j y);
+        others = λ i f.
+            elim (decLt i a) [
+              | yes x ↦ back-before a k b fr fi p same i x
+              | no x ↦ elim (decLt i (a + k)) [ yes y ↦ inner i (omega arith) y f | no y ↦ back-after a k b fr fi p same i (omega arith) ]
+            ];
+      }
+    where
+      far : (j : ℕ) → a + (j + d) ≡ a + j + d
+      far j = omega arith
+
+      read : (j : ℕ) → j < k - d → pair (at (lent a k b) j) (at (lent a k b) (j + d)) ≡ pair (at b (a + j)) (at b (a + j + d))
+      read j h = ap₂ pair (lent-place a k b fr fi j (omega arith)) (lent-place a k b fr fi (j + d) (omega arith) ∙ ap (at b) (far j))
+
+      inner : (i : ℕ) → a ≤ i → i < a + k → ((j : ℕ) → Key j → 0 ≤ j → j < k - d → (i ≡ a + j) ⊎ (i ≡ a + j + d) → ⊥) → at (returned a k b p) i ≡ at b i
+      inner i x y f =
+          let m : ℕ = i - a in
+          let e : a + m ≡ i = omega arith in
+          subst (λ (z : ℕ). at (returned a k b p) z ≡ at b z) e
+          (back-inside a k b fr fi p same m (omega arith)
+          ∙ q .others m (λ j key u v w. f j key u v (⊎-elim (λ h. inl (let g : i ≡ a + j = omega arith in g)) (λ h. inr (let g : i ≡ a + j + d = omega arith in g)) w))
+          ∙ lent-place a k b fr fi m (omega arith))
+
+-- the length of the lent part, and of its pairs
+module _ (u low run back0 back1 : ℕ) (reach : back0 ≤ u + low) (order : back1 < back0) (below : low ≤ run) where
+  span : u + run - back1 - (u + low - back0) ≡ run - low + (back0 - back1)
+  span =
+      let a : ℕ = u + low - back0 in
+      let e : a + back0 ≡ u + low = omega arith in
+      omega arith
+
+  span-last : u + run - back1 - (u + low - back0) - (back0 - back1) ≡ run - low
+  span-last = ap (λ (x : ℕ). x - (back0 - back1)) span ∙ omega arith
+
+  span-le : back0 - back1 ≤ u + run - back1 - (u + low - back0)
+  span-le = rw span (omega arith)
+
+  -- the places of the key u + low + j are those of j in the part
+  span-lower : (j : ℕ) → u + low + j - back0 ≡ u + low - back0 + j
+  span-lower j = omega arith
+
+  span-upper : (j : ℕ) → u + low + j - back1 ≡ u + low - back0 + j + (back0 - back1)
+  span-upper j = omega arith
+
+  span-cross : (i j : ℕ) → i ≡ j + (back0 - back1) → u + low + i - back0 ≡ u + low + j - back1
+  span-cross i j e = omega arith
+
+  span-in : (v m : ℕ) → low ≤ v → v < run → m ≡ run - low → v - low < m
+  span-in v m x y e = omega arith
+
+-- ---- what the loop keeps, at the start u of a run
+pub record Turns (rule : Pair → Pair) (n wide run stride back0 back1 : ℕ) (b₀ : Buffers) (u : ℕ) (b : Buffers) : Type 0 where
+  pub cut : Cut n wide run stride
+  pub same : SameSize b₀ b
+  pub turn : ℕ
+  pub here : u ≡ turn * 2 ^ (cut .r)
+  pub on : bitAnd turn (cut .y) ≡ cut .y
+  pub under : (v : ℕ) → Has (wide + (stride - 1)) v → v < u → v < 2 ^ n
+  pub done : Paired rule (Has (wide + (stride - 1))) (λ v. v - back0) (λ v. v - back1) 0 u (at b₀) (at b)
+
+-- the numbers of a turn: the lent part is from u + low - back0 to u + run - back1
+pub record Numbers (n run stride back0 back1 u : ℕ) (b : Buffers) : Type 0 where
+  pub some : 0 < stride
+  pub low : stride * 2 ≤ run
+  pub reach : back0 ≤ u + (stride - 1)
+  pub order : back1 < back0
+  pub room : u + run ≤ 2 ^ n
+  pub small : 2 ^ n ≤ 2 ^ 24
+  pub reals : length (b .reals) ≡ 2 ^ n
+  pub imags : length (b .imags) ≡ 2 ^ n
+
+module _ {n wide run stride back0 back1 : ℕ} {b₀ : Buffers} (ok : Runs n wide run stride back0 back1 b₀) where
+  abbrev key : ℕ → Type 0
+  key = Has (wide + (stride - 1))
+
+  pub turns-start : {rule : Pair → Pair} → Turns rule n wide run stride back0 back1 b₀ wide b₀
+  turns-start {rule} =
+      record {
+        cut = ok .cut;
+        same = record { reals = refl; imags = refl };
+        turn = ok .cut .y;
+        here = ok .cut .wide-is;
+        on = and-self (ok .cut .y);
+        under = λ v k l. absurd (omega (arith, key-ge (wide + (stride - 1)) v k));
+        done = nothing rule (Has (wide + (stride - 1))) (λ v. v - back0) (λ v. v - back1) 0 wide (at b₀) (λ v k x y. omega (arith, key-ge (wide + (stride - 1)) v k));
+      }
+
+  module _ {rule : Pair → Pair} {u : ℕ} {b : Buffers} (t : Turns rule n wide run stride back0 back1 b₀ u b) where
+    -- the run's keys
+    own : (j : ℕ) → j % stride ≡ 0 → j < run - (stride - 1) → Has (wide + (stride - 1)) (u + (stride - 1) + j)
+    own j z l =
+        let e : t .turn * 2 ^ (t .cut .r) + (stride - 1 + j) ≡ u + (stride - 1) + j = omega (arith, t .here) in
+        subst (Has (wide + (stride - 1))) e (run-on (t .cut) (t .turn) j (t .on) (omega (arith, t .cut .run-is)) z)
+
+    pub numbers : u < 2 ^ n → Numbers n run stride back0 back1 u b
+    numbers l =
+        let le : stride * 2 ≤ run = omega (arith, stride-le (t .cut), t .cut .run-is) in
+        let first : u + (stride - 1) + 0 ≡ u + (stride - 1) = omega arith in
+        let k : Has (wide + (stride - 1)) (u + (stride - 1)) = subst (Has (wide + (stride - 1))) first (own 0 (zero-mod stride) (omega (arith, stride-pos (t .cut)))) in
+        record {
+          some = stride-pos (t .cut);
+          low = le;
+          reach = omega (arith, key-ge (wide + (stride - 1)) (u + (stride - 1)) k, ok .keyed .reach);
+          order = ok .keyed .order;
+          room = run-room (t .cut) (t .turn) u (t .here) l;
+          small = pow-le n 24 (ok .keyed .fits);
+          reals = t .same .reals ∙ ok .keyed .reals;
+          imags = t .same .imags ∙ ok .keyed .imags;
+        }
+
+    under : u < 2 ^ n → stride - 1 ≤ run
+    under l = let q = numbers l in omega (arith, q .low, q .some)
+
+    module _ (l : u < 2 ^ n) where
+      abbrev a : ℕ
+      a = u + (stride - 1) - back0
+
+      abbrev k : ℕ
+      k = u + run - back1 - (u + (stride - 1) - back0)
+
+      fits : a + k ≤ 2 ^ n
+      fits = omega (arith, numbers l)
+
+      last-is : k - (back0 - back1) ≡ run - (stride - 1)
+      last-is = span-last u (stride - 1) run back0 back1 (numbers l .reach) (numbers l .order) (under l)
+
+      wide-enough : back0 - back1 ≤ k
+      wide-enough = span-le u (stride - 1) run back0 back1 (numbers l .reach) (numbers l .order) (under l)
+
+      lower-at : (j : ℕ) → u + (stride - 1) + j - back0 ≡ a + j
+      lower-at j = span-lower u (stride - 1) run back0 back1 (numbers l .reach) (numbers l .order) (under l) j
+
+      upper-at : (j : ℕ) → u + (stride - 1) + j - back1 ≡ a + j + (back0 - back1)
+      upper-at j = span-upper u (stride - 1) run back0 back1 (numbers l .reach) (numbers l .order) (under l) j
+
+      in-part : (v : ℕ) → stride - 1 ≤ v → v < run → v - (stride - 1) < k - (back0 - back1)
+      in-part v x y = span-in u (stride - 1) run back0 back1 (numbers l .reach) (numbers l .order) (under l) v (k - (back0 - back1)) x y last-is
+
+      inside-run : (v : ℕ) → v < run - (stride - 1) → u + (stride - 1) + v < u + run
+      inside-run v y = omega arith
+
+      pub turns-ask : Run (back0 - back1) stride (lent a k b)
+      turns-ask =
+          let q = numbers l in
+          let fr : a + k ≤ length (b .reals) = omega (arith, fits, q .reals) in
+          let fi : a + k ≤ length (b .imags) = omega (arith, fits, q .imags) in
+          let lr : length (lent a k b .reals) ≡ k = lent-reals a k b fr fi in
+          let li : length (lent a k b .imags) ≡ k = lent-imags a k b fr fi in
+          let la : lastOf (back0 - back1) (lent a k b) ≡ run - (stride - 1) = ap (λ (x : ℕ). x - (back0 - back1)) lr ∙ last-is in
+          let low : stride - 1 ≤ run = under l in
+          record {
+            equal = li ∙ sym lr;
+            small = omega (arith, fits, q);
+            some = q .some;
+            narrow = omega (arith, q);
+            room = omega (arith, wide-enough, lr);
+            apart = λ i j x y e.
+                apart (ok .keyed) .cross (u + (stride - 1) + i) (u + (stride - 1) + j) (own i (x .0) (rw la at (x .1))) (own j (y .0) (rw la at (y .1)))
+                (span-cross u (stride - 1) run back0 back1 (q .reach) (q .order) low i j e);
+            even = λ i z x. rw la (run-even (t .cut) i z (rw la at x));
+          }
+
+      pub turns-step : (p : Buffers) → Ran rule (back0 - back1) stride (lent a k b) p
+          → Turns rule n wide run stride back0 back1 b₀ (bitOr (u + run) wide) (returned a k b p)
+      turns-step p ran =
+          let q = numbers l in
+          let fr : a + k ≤ length (b .reals) = omega (arith, fits, q .reals) in
+          let fi : a + k ≤ length (b .imags) = omega (arith, fits, q .imags) in
+          let back = back-same a k b fr fi p (ran .same) in
+          let next : bitOr (u + run) wide ≡ bitOr (t .turn + 1) (t .cut .y) * 2 ^ (t .cut .r) = next-is (t .cut) (t .turn) u (t .here) in
+          let far : u + run ≤ bitOr (u + run) wide = or-ge (u + run) wide in
+          let gone : (v : ℕ) → Has (wide + (stride - 1)) v → u + run ≤ v → v < bitOr (u + run) wide → ⊥ =
+          (λ v key x y. omega (arith, next, t .here, t .cut .run-is, next-run (t .cut) (t .turn) v (t .on) key (omega (arith, t .here, t .cut .run-is)))) in
+          record {
+            cut = t .cut;
+            same = record { reals = back .reals ∙ t .same .reals; imags = back .imags ∙ t .same .imags };
+            turn = bitOr (t .turn + 1) (t .cut .y);
+            here = next;
+            on = or-covers (t .turn + 1) (t .cut .y);
+            under = λ v key x. elim (decLt v (u + run)) [ yes h ↦ omega (arith, q) | no h ↦ absurd (gone v key (omega arith) x) ];
+            done =
+                join rule (Has (wide + (stride - 1))) (λ v. v - back0) (λ v. v - back1) (apart (ok .keyed)) (omega arith) (omega arith) (t .done)
+                (join rule (Has (wide + (stride - 1))) (λ v. v - back0) (λ v. v - back1) (apart (ok .keyed)) (omega arith) far (this p ran)
+                (nothing rule (Has (wide + (stride - 1))) (λ v. v - back0) (λ v. v - back1) (u + run) (bitOr (u + run) wide) (at (returned a k b p)) gone));
+          }
+        where
+          -- the run itself
+          this : (p : Buffers) → Ran rule (back0 - back1) stride (lent a k b) p
+              → Paired rule (Has (wide + (stride - 1))) (λ v. v - back0) (λ v. v - back1) u (u + run) (at b) (at (returned a k b p))
+          this p ran =
+              let q = numbers l in
+              let fr : a + k ≤ length (b .reals) = omega (arith, fits, q .reals) in
+              let fi : a + k ≤ length (b .imags) = omega (arith, fits, q .imags) in
+              let lr : length (lent a k b .reals) ≡ k = lent-reals a k b fr fi in
+              let la : lastOf (back0 - back1) (lent a k b) ≡ k - (back0 - back1) = ap (λ (x : ℕ). x - (back0 - back1)) lr in
+              let pairs = subst (λ (m : ℕ). Paired rule (Spaced stride m) (λ i. i) (λ i. i + (back0 - back1)) 0 m (at (lent a k b)) (at p)) la (ran .pairs) in
+              let lifted = lift rule (Spaced stride (k - (back0 - back1))) (back0 - back1) a k b p fr fi (ran .same) wide-enough (λ i key. key .1) pairs in
+              renumber rule (Has (wide + (stride - 1))) (λ v. v - back0) (λ v. v - back1)
+              (Spaced stride (k - (back0 - back1))) (λ i. a + i) (λ i. a + i + (back0 - back1)) u (u + run) 0 (k - (back0 - back1))
+              (λ w key x y. found w key x y) (λ v key x y. back v key y) lifted
+            where
+              found : (w : ℕ) → Has (wide + (stride - 1)) w → u ≤ w → w < u + run → (v : ℕ) × Same′ rule (Has (wide + (stride - 1))) (λ v. v - back0) (λ v. v - back1) (Spaced stride (k - (back0 - back1))) (λ i. a + i) (λ i. a + i + (back0 - back1)) u (u + run) 0 (k - (back0 - back1)) w v
+              found w key x y =
+                  let v : ℕ = w - u in
+                  let vr : v < run = omega arith in
+                  let e : w ≡ t .turn * 2 ^ (t .cut .r) + v = omega (arith, t .here) in
+                  let o = cut-on (t .cut) (t .turn) v (omega (arith, t .cut .run-is)) (subst (Has (wide + (stride - 1))) e key) .1 in
+                  let f = low-off (t .cut) v o in
+                  let h : w ≡ u + (stride - 1) + (v - (stride - 1)) = omega (arith, f .0) in
+                  let m : v - (stride - 1) < k - (back0 - back1) = in-part v (f .0) vr in (
+                    v - (stride - 1),
+                    record {
+                      key = (f .1, m);
+                      from = zero≤;
+                      below = m;
+                      lower = ap (λ (z : ℕ). z - back0) h ∙ lower-at (v - (stride - 1));
+                      upper = ap (λ (z : ℕ). z - back1) h ∙ upper-at (v - (stride - 1));
+                    },
+                  )
+
+              back : (v : ℕ) → Spaced stride (k - (back0 - back1)) v → v < k - (back0 - back1) → (w : ℕ) × Same rule (Has (wide + (stride - 1))) (λ v. v - back0) (λ v. v - back1) (Spaced stride (k - (back0 - back1))) (λ i. a + i) (λ i. a + i + (back0 - back1)) u (u + run) 0 (k - (back0 - back1)) v w
+              back v key y =
+                  let m : v < run - (stride - 1) = rw last-is at y in (
+                    u + (stride - 1) + v,
+                    record {
+                      key = own v (key .0) m;
+                      from = omega arith;
+                      below = inside-run v m;
+                      lower = lower-at v;
+                      upper = upper-at v;
+                    },
+                  )
+
+    pub turns-end : 2 ^ n ≤ u → Swept rule n (wide + (stride - 1)) back0 back1 b₀ b
+    turns-end l =
+        record {
+          same = t .same;
+          pairs =
+              record {
+                lower = λ v key x y. t .done .lower v key x (omega arith);
+                upper = λ v key x y. t .done .upper v key x (omega arith);
+                others = λ i f. t .done .others i (λ v key x y. f v key x (t .under v key y));
+              };
+        }

@@ -1,0 +1,50 @@
+// The chosen pairs one by one, key by key: for the gates whose rule needs F, and where one pair is all.
+use super::pairs::read_pair;
+use super::pairs::write_pair;
+use book::Angle;
+use book::Matrix;
+use rules::Rule;
+ghost use Rattle.book.specs.Answers.{buffers};
+ghost use Rattle.book.specs.State.{at};
+ghost use Rattle.rules.specs.Rules.{ruleOf};
+ghost use Rattle.state.specs.Pairs.{TwoPlaces, Stepped, SameSize, Keyed, Swept};
+
+fn step(
+    reals: &mut [f64],
+    imags: &mut [f64],
+    s0: usize,
+    s1: usize,
+    rule: Rule,
+    angle: Angle,
+    matrix: Matrix,
+)
+    requires { ⌜ TwoPlaces (buffers (now reals) (now imags)) s0 s1 ⌝ }
+    ensures { λ _. ⌜ Stepped (ruleOf rule angle matrix) s0 s1 (at (buffers (now (reals .entry)) (now (imags .entry)))) (at (buffers (now (reals .exit)) (now (imags .exit)))) × SameSize (buffers (now (reals .entry)) (now (imags .entry))) (buffers (now (reals .exit)) (now (imags .exit))) ⌝ }
+{
+    let p = read_pair(reals, imags, s0, s1);
+    let q = rules::put(rule, angle, matrix, p);
+    write_pair(reals, imags, s0, s1, q);
+}
+
+// w goes over the numbers that have all bits of fixed, rising; each is the key of a pair, at w - back0 and w - back1.
+pub(crate) fn by_keys(
+    reals: &mut [f64],
+    imags: &mut [f64],
+    n: u32,
+    fixed: usize,
+    back0: usize,
+    back1: usize,
+    rule: Rule,
+    angle: Angle,
+    matrix: Matrix,
+)
+    requires { ⌜ Keyed n fixed back0 back1 (buffers (now reals) (now imags)) ⌝ }
+    ensures { λ _. ⌜ Swept (ruleOf rule angle matrix) n fixed back0 back1 (buffers (now (reals .entry)) (now (imags .entry))) (buffers (now (reals .exit)) (now (imags .exit))) ⌝ }
+{
+    let size: usize = 1 << n;
+    let mut w = fixed;
+    while w < size {
+        step(reals, imags, w - back0, w - back1, rule, angle, matrix);
+        w = (w + 1) | fixed;
+    }
+}

@@ -1,0 +1,65 @@
+// One pair of amplitudes, read and written back by value; two of them written at once.
+use book::Amplitude;
+use book::Pair;
+ghost use mathlib.Core.Path.{_≡_};
+ghost use Rattle.book.specs.Answers.{buffers};
+ghost use Rattle.book.specs.State.{at};
+ghost use Rattle.state.specs.Pairs.{TwoPlaces, pairAt, Stepped, SameSize};
+ghost use Rattle.state.specs.Runs.{FourPlaces, WrittenTwo};
+
+pub(crate) fn read_pair(reals: &[f64], imags: &[f64], s0: usize, s1: usize) -> Pair
+    requires { ⌜ TwoPlaces (buffers (now reals) (now imags)) s0 s1 ⌝ }
+    ensures { λ r. ⌜ r ≡ pairAt (buffers (now (reals .entry)) (now (imags .entry))) s0 s1 ⌝ }
+{
+    Pair {
+        s0: Amplitude {
+            re: reals[s0],
+            im: imags[s0],
+        },
+        s1: Amplitude {
+            re: reals[s1],
+            im: imags[s1],
+        },
+    }
+}
+
+pub(crate) fn write_pair(reals: &mut [f64], imags: &mut [f64], s0: usize, s1: usize, p: Pair)
+    requires { ⌜ TwoPlaces (buffers (now reals) (now imags)) s0 s1 ⌝ }
+    ensures { λ _. ⌜ Stepped (λ q. p) s0 s1 (at (buffers (now (reals .entry)) (now (imags .entry)))) (at (buffers (now (reals .exit)) (now (imags .exit)))) × SameSize (buffers (now (reals .entry)) (now (imags .entry))) (buffers (now (reals .exit)) (now (imags .exit))) ⌝ }
+{
+    let ab = p.s0;
+    let cd = p.s1;
+    reals[s0] = ab.re;
+    imags[s0] = ab.im;
+    reals[s1] = cd.re;
+    imags[s1] = cd.im;
+}
+
+// Two pairs that lie stride apart. Both of one buffer's neighbours stand together, so that the compiler can join them.
+pub(crate) fn write_two(
+    reals: &mut [f64],
+    imags: &mut [f64],
+    s0: usize,
+    s1: usize,
+    stride: usize,
+    p: Pair,
+    q: Pair,
+)
+    requires { ⌜ FourPlaces (buffers (now reals) (now imags)) s0 s1 stride ⌝ }
+    ensures { λ _. ⌜ WrittenTwo s0 s1 stride p q (at (buffers (now (reals .entry)) (now (imags .entry)))) (at (buffers (now (reals .exit)) (now (imags .exit)))) × SameSize (buffers (now (reals .entry)) (now (imags .entry))) (buffers (now (reals .exit)) (now (imags .exit))) ⌝ }
+{
+    let ab = p.s0;
+    let cd = p.s1;
+    let ef = q.s0;
+    let gh = q.s1;
+    let t0 = s0 + stride;
+    let t1 = s1 + stride;
+    reals[s0] = ab.re;
+    reals[t0] = ef.re;
+    imags[s0] = ab.im;
+    imags[t0] = ef.im;
+    reals[s1] = cd.re;
+    reals[t1] = gh.re;
+    imags[s1] = cd.im;
+    imags[t1] = gh.im;
+}

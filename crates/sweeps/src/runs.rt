@@ -1,0 +1,171 @@
+// The chosen pairs run by run, for the gates that need no F: each run is lent as one part of both buffers.
+// The numbers that stand as literals at the calls, the gate's among them, let the compiler make a loop for each; one proof serves them all.
+use super::pairs::read_pair;
+use super::pairs::write_pair;
+use super::pairs::write_two;
+use book::Angle;
+use rules::put_quick;
+ghost use Prim.Native.Nat.{_+_, _-_};
+ghost use Rattle.book.specs.Answers.{buffers};
+ghost use Rattle.rules.specs.Rules.{quickOf};
+ghost use Rattle.state.specs.Pairs.{Swept};
+ghost use Rattle.state.specs.Runs.{Run, Ran, Runs};
+
+// One pair at a turn, at each stride-th place.
+fn along(reals: &mut [f64], imags: &mut [f64], d: usize, stride: usize, rule: u32, angle: Angle)
+    requires { ⌜ Run d stride (buffers (now reals) (now imags)) ⌝ }
+    ensures { λ _. ⌜ Ran (quickOf rule angle) d stride (buffers (now (reals .entry)) (now (imags .entry))) (buffers (now (reals .exit)) (now (imags .exit))) ⌝ }
+{
+    let last = reals.len() - d;
+    let mut i = 0;
+    while i < last {
+        let p = read_pair(reals, imags, i, i + d);
+        let v = put_quick(rule, angle, p);
+        write_pair(reals, imags, i, i + d, v);
+        i += stride;
+    }
+}
+
+// Two pairs at a turn: both are read before either is written.
+fn by_twos(reals: &mut [f64], imags: &mut [f64], d: usize, stride: usize, rule: u32, angle: Angle)
+    requires { ⌜ Run d stride (buffers (now reals) (now imags)) ⌝ }
+    ensures { λ _. ⌜ Ran (quickOf rule angle) d stride (buffers (now (reals .entry)) (now (imags .entry))) (buffers (now (reals .exit)) (now (imags .exit))) ⌝ }
+{
+    let last = reals.len() - d;
+    let mut i = 0;
+    while i < last {
+        let next = i + stride;
+        let p = read_pair(reals, imags, i, i + d);
+        let q = read_pair(reals, imags, next, next + d);
+        let v = put_quick(rule, angle, p);
+        let w = put_quick(rule, angle, q);
+        write_two(reals, imags, i, i + d, stride, v, w);
+        i += stride * 2;
+    }
+}
+
+fn part(
+    reals: &mut [f64],
+    imags: &mut [f64],
+    d: usize,
+    stride: usize,
+    two: bool,
+    rule: u32,
+    angle: Angle,
+)
+    requires { ⌜ Run d stride (buffers (now reals) (now imags)) ⌝ }
+    ensures { λ _. ⌜ Ran (quickOf rule angle) d stride (buffers (now (reals .entry)) (now (imags .entry))) (buffers (now (reals .exit)) (now (imags .exit))) ⌝ }
+{
+    if two {
+        by_twos(reals, imags, d, stride, rule, angle);
+        return;
+    }
+    along(reals, imags, d, stride, rule, angle);
+}
+
+// u goes over the numbers that have all bits of wide, run by run; each stride-th of those is a key.
+fn runs(
+    reals: &mut [f64],
+    imags: &mut [f64],
+    n: u32,
+    wide: usize,
+    run: usize,
+    stride: usize,
+    back0: usize,
+    back1: usize,
+    two: bool,
+    rule: u32,
+    angle: Angle,
+)
+    requires { ⌜ Runs n wide run stride back0 back1 (buffers (now reals) (now imags)) ⌝ }
+    ensures { λ _. ⌜ Swept (quickOf rule angle) n (wide + (stride - 1)) back0 back1 (buffers (now (reals .entry)) (now (imags .entry))) (buffers (now (reals .exit)) (now (imags .exit))) ⌝ }
+{
+    let size: usize = 1 << n;
+    let low = stride - 1;
+    let d = back0 - back1;
+    let mut u = wide;
+    while u < size {
+        let a = u + low - back0;
+        let e = u + run - back1;
+        part(
+            &mut reals[a..e],
+            &mut imags[a..e],
+            d,
+            stride,
+            two,
+            rule,
+            angle,
+        );
+        u = (u + run) | wide;
+    }
+}
+
+// Neighbouring keys, in long runs.
+pub(crate) fn dense(
+    reals: &mut [f64],
+    imags: &mut [f64],
+    n: u32,
+    wide: usize,
+    run: usize,
+    back0: usize,
+    back1: usize,
+    rule: u32,
+    angle: Angle,
+)
+    requires { ⌜ Runs n wide run 1 back0 back1 (buffers (now reals) (now imags)) ⌝ }
+    ensures { λ _. ⌜ Swept (quickOf rule angle) n (wide + (1 - 1)) back0 back1 (buffers (now (reals .entry)) (now (imags .entry))) (buffers (now (reals .exit)) (now (imags .exit))) ⌝ }
+{
+    match rule {
+        0 => runs(reals, imags, n, wide, run, 1, back0, back1, false, 0, angle),
+        1 => runs(reals, imags, n, wide, run, 1, back0, back1, false, 1, angle),
+        2 => runs(reals, imags, n, wide, run, 1, back0, back1, false, 2, angle),
+        3 => runs(reals, imags, n, wide, run, 1, back0, back1, false, 3, angle),
+        _ => runs(reals, imags, n, wide, run, 1, back0, back1, false, 4, angle),
+    }
+}
+
+// Neighbouring keys, in short runs.
+pub(crate) fn short(
+    reals: &mut [f64],
+    imags: &mut [f64],
+    n: u32,
+    wide: usize,
+    run: usize,
+    back0: usize,
+    back1: usize,
+    rule: u32,
+    angle: Angle,
+)
+    requires { ⌜ Runs n wide run 1 back0 back1 (buffers (now reals) (now imags)) ⌝ }
+    ensures { λ _. ⌜ Swept (quickOf rule angle) n (wide + (1 - 1)) back0 back1 (buffers (now (reals .entry)) (now (imags .entry))) (buffers (now (reals .exit)) (now (imags .exit))) ⌝ }
+{
+    match rule {
+        0 => runs(reals, imags, n, wide, run, 1, back0, back1, true, 0, angle),
+        1 => runs(reals, imags, n, wide, run, 1, back0, back1, true, 1, angle),
+        2 => runs(reals, imags, n, wide, run, 1, back0, back1, true, 2, angle),
+        3 => runs(reals, imags, n, wide, run, 1, back0, back1, true, 3, angle),
+        _ => runs(reals, imags, n, wide, run, 1, back0, back1, true, 4, angle),
+    }
+}
+
+// Each second key, with neighbouring places: target 0.
+pub(crate) fn neighbours(
+    reals: &mut [f64],
+    imags: &mut [f64],
+    n: u32,
+    wide: usize,
+    run: usize,
+    rule: u32,
+    angle: Angle,
+)
+    requires { ⌜ Runs n wide run 2 1 0 (buffers (now reals) (now imags)) ⌝ }
+    ensures { λ _. ⌜ Swept (quickOf rule angle) n (wide + (2 - 1)) 1 0 (buffers (now (reals .entry)) (now (imags .entry))) (buffers (now (reals .exit)) (now (imags .exit))) ⌝ }
+{
+    match rule {
+        0 => runs(reals, imags, n, wide, run, 2, 1, 0, true, 0, angle),
+        1 => runs(reals, imags, n, wide, run, 2, 1, 0, true, 1, angle),
+        2 => runs(reals, imags, n, wide, run, 2, 1, 0, true, 2, angle),
+        3 => runs(reals, imags, n, wide, run, 2, 1, 0, true, 3, angle),
+        _ => runs(reals, imags, n, wide, run, 2, 1, 0, true, 4, angle),
+    }
+}

@@ -1,0 +1,105 @@
+// Z and P leave s0 as it is: the upper half of each block of 2 * 2^target places is lent on and written there.
+use book::Amplitude;
+use book::Angle;
+use book::Answer;
+use book::Controls;
+use rules::Upper;
+ghost use Prim.Native.Nat.{_+_, _≤_, _^_};
+ghost use lib.ListN.{length};
+ghost use mathlib.Core.Path.{_≡_};
+ghost use Rattle.book.specs.Answers.{buffers, Does};
+ghost use Rattle.book.specs.Gates.{pairGate};
+ghost use Rattle.book.specs.Kernels.{kernel};
+ghost use Rattle.book.specs.State.{at, onPairs};
+ghost use Rattle.rules.specs.Rules.{upperRule};
+ghost use Rattle.state.specs.Judging.{Seated};
+ghost use Rattle.state.specs.Pairs.{Turned, SameSize};
+ghost use Rattle.uppers.specs.Uppers.{turnedAt};
+
+// The place i, whose amplitude is cd: turned where the controls choose it.
+fn turn_at(controls: Controls, upper: Upper, angle: Angle, i: usize, cd: Amplitude) -> Amplitude
+    ensures { λ r. ⌜ r ≡ turnedAt controls upper angle i cd ⌝ }
+{
+    let ones = controls.ones as usize;
+    if i & ones == ones {
+        return rules::put_upper(upper, angle, cd);
+    }
+    cd
+}
+
+// The lent half, whose first place is from.
+fn turn_half(
+    reals: &mut [f64],
+    imags: &mut [f64],
+    from: usize,
+    controls: Controls,
+    upper: Upper,
+    angle: Angle,
+)
+    requires { ⌜ (length (now imags) ≡ length (now reals)) × (from + length (now reals) ≤ 2 ^ 24) ⌝ }
+    ensures { λ _. ⌜ Turned (λ j. turnedAt controls upper angle (from + j)) 0 (length (now (reals .entry))) (at (buffers (now (reals .entry)) (now (imags .entry)))) (at (buffers (now (reals .exit)) (now (imags .exit)))) × SameSize (buffers (now (reals .entry)) (now (imags .entry))) (buffers (now (reals .exit)) (now (imags .exit))) ⌝ }
+{
+    let mut j = 0;
+    while j < reals.len() {
+        let cd = Amplitude {
+            re: reals[j],
+            im: imags[j],
+        };
+        let turned = turn_at(controls, upper, angle, from + j, cd);
+        reals[j] = turned.re;
+        imags[j] = turned.im;
+        j += 1;
+    }
+}
+
+// Block by block; the upper half of a block is from a to e.
+fn turn_blocks(
+    reals: &mut [f64],
+    imags: &mut [f64],
+    n: u32,
+    target: u32,
+    controls: Controls,
+    upper: Upper,
+    angle: Angle,
+)
+    requires { ⌜ Seated n target controls (buffers (now reals) (now imags)) ⌝ }
+    ensures { λ _. ⌜ buffers (now (reals .exit)) (now (imags .exit)) ≡ onPairs (upperRule upper angle) n target controls (buffers (now (reals .entry)) (now (imags .entry))) ⌝ }
+{
+    let size: usize = 1 << n;
+    let bit: usize = 1 << target;
+    let mut base = 0;
+    while base < size {
+        let a = base + bit;
+        let e = a + bit;
+        turn_half(
+            &mut reals[a..e],
+            &mut imags[a..e],
+            a,
+            controls,
+            upper,
+            angle,
+        );
+        base = e;
+    }
+}
+
+// A gate that leaves s0 as it is: judged, then turned block by block.
+pub fn on_uppers(
+    reals: &mut [f64],
+    imags: &mut [f64],
+    n: u32,
+    target: u32,
+    controls: Controls,
+    most: u32,
+    numbers: &[f64],
+    upper: Upper,
+    angle: Angle,
+) -> Answer
+    ensures { λ r. ⌜ Does (kernel (pairGate (upperRule upper angle) most (now (numbers .entry))) n target controls (buffers (now (reals .entry)) (now (imags .entry)))) r (buffers (now (reals .exit)) (now (imags .exit))) ⌝ }
+{
+    let answer = state::judge(reals, imags, n, target, controls, most, numbers);
+    if let Answer::Taken = answer {
+        turn_blocks(reals, imags, n, target, controls, upper, angle);
+    }
+    answer
+}
