@@ -1,6 +1,6 @@
 -- Any two results that a contract allows agree: what an answer says gives the answer back, since no two cases say the same. Once for every call. Assumes nothing.
 use Prim.Native.Nat.{ℕ, _-_}
-use mathlib.Core.List.{List, [], _∷_}
+use mathlib.Core.List.{[], _∷_}
 use mathlib.Core.Path.{_≡_, refl, sym, ap, _∙_}
 use lib.ListN.{getD}
 use Rattle.book.specs.Answers.{numberOf, Said, taken, value, refused, says, Buffers, Outcome, Does}

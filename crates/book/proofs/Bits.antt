@@ -1,7 +1,7 @@
 -- Laws of the bits of an index: setting a bit that is 0, clearing one that is 1, and what that does to the other bits and to a mask. By halves: bit t + 1 of i
 -- is bit t of i / 2. Assumes nothing.
 use Prim.Native.Nat.{ℕ, zero, suc, _+_, _-_, _*_, _/_, _%_, _^_, _≤_, _<_, min}
-use mathlib.Core.Logic.{_⊎_, inl, inr, ⊎-elim}
+use mathlib.Core.Logic.{_⊎_, inl, inr}
 use mathlib.Core.Path.{_≡_, refl, sym, ap, ap₂, _∙_}
 use native.Mathlib.Nat.{pow-suc, mod-lt, div-one, div-div-eq-div-mul, mul-comm, mul-assoc, add-div-right, le-div-iff-mul-le, zero-lt-suc, div-lt-iff-lt-mul}
 use native.Mathlib.Numerals.{add-one}
@@ -13,14 +13,13 @@ use Rattle.book.specs.State.{bit}
 pub bit-lt : (t i : ℕ) → bit t i < 2
 bit-lt t i = mod-lt (i / 2 ^ t) (zero-lt-suc 1)
 
--- a bit is 0 or 1
+pub zero-or-one : (x : ℕ) → x < 2 → (x ≡ 0) ⊎ (x ≡ 1)
+zero-or-one zero l = inl refl
+zero-or-one (suc zero) l = inr refl
+zero-or-one (suc (suc x)) l = absurd (omega arith)
+
 pub halves : (t i : ℕ) → (bit t i ≡ 0) ⊎ (bit t i ≡ 1)
-halves t i = by (bit t i) (bit-lt t i)
-  where
-    by : (x : ℕ) → x < 2 → (x ≡ 0) ⊎ (x ≡ 1)
-    by zero l = inl refl
-    by (suc zero) l = inr refl
-    by (suc (suc x)) l = absurd (omega arith)
+halves t i = zero-or-one (bit t i) (bit-lt t i)
 
 pub bit-zero : (i : ℕ) → bit 0 i ≡ i % 2
 bit-zero i = ap (λ (x : ℕ). x % 2) (div-one i)

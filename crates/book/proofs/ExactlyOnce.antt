@@ -3,7 +3,7 @@
 use Prim.Native.Nat.{ℕ, zero, suc, _+_, _^_, _≤_, _<_}
 use mathlib.Core.Bool.{Bool, true, false, cond}
 use mathlib.Core.List.{List, [], _∷_, _++_, append-nil, append-assoc}
-use mathlib.Core.Logic.{_⊎_, inl, inr}
+use mathlib.Core.Logic.{inl, inr}
 use mathlib.Core.Option.{Option, some, none}
 use mathlib.Core.Path.{_≡_, refl, sym, ap, _∙_, subst}
 use native.Mathlib.Nat.{add-zero, zero-add}
@@ -13,11 +13,11 @@ use borrow.Author.Tests.{lt-ltb, le-ltb, eq-eqb, ne-eqb, ltb-true, ltb-false}
 use lib.Dec.{ltb, eqb}
 use lib.ListN.{length, take, drop, getD, take-append-drop}
 use lib.Seq.{length-take-le}
-use Rattle.book.specs.Answers.{refused, again, said, Replied, Buffers, Outcome}
-use Rattle.book.specs.ExactlyOnce.{FoundIn, done, Longest, In, Numbered, after, OneOf, AllOf, cons, seen, Given, Once, ExactlyOnce}
+use Rattle.book.specs.Answers.{refused, again, said, Replied, Buffers}
+use Rattle.book.specs.ExactlyOnce.{FoundIn, done, Longest, In, Numbered, after, OneOf, AllOf, cons, seen, Given, ExactlyOnce}
 use Rattle.book.specs.Kernels.{badSize, mostQubits, badLength}
 use Rattle.book.specs.Records.{readRecord}
-use Rattle.book.specs.Sessions.{Session, session, start, act, accepts, Delivery, kept, refusing, counted, takeRecord, takeRead, deliver, Bench, deliverAll}
+use Rattle.book.specs.Sessions.{Session, session, start, act, accepts, Delivery, kept, takeRecord, takeRead, deliver, deliverAll}
 use Rattle.book.specs.declared.Record.{Record}
 use Rattle.book.proofs.Found.{longest-same, longest-next, found-nil}
 use Rattle.book.proofs.Lengths.{act-fits}

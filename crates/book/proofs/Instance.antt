@@ -1,29 +1,25 @@
 -- The hypotheses of demand 3 can be met: a fresh session of two qubits, and a list with each of the twelve gates, accepted in order as antt works out.
 -- So what demand 3 says of it, it says of something. Assumes nothing.
 use Prim.Native.Nat.{ℕ, _+_}
-use mathlib.Core.List.{List, [], _∷_, _++_, map}
-use mathlib.Core.Logic.{inl, inr}
+use mathlib.Core.List.{List, [], _∷_}
 use mathlib.Core.Option.{Option, some, none}
-use mathlib.Core.Path.{_≡_, refl}
+use mathlib.Core.Path.{refl}
 use native.Mathlib.Omega.{arith}
 use lib.Count.{ones}
-use lib.Ieee.{Float, fin, ofInt, ofBits, toBits, add, sub, mul, div, neg, le, lt, eq}
-use lib.IntN.{negsuc}
+use lib.Ieee.{ofInt, ofBits, add, sub, mul, div, neg, le, lt, eq}
 use Rattle.numbers.specs.Fused.{fused, root}
 use Rattle.book.specs.Answers.{Buffers}
 use Rattle.book.specs.Examples.{real, controls, whole, ofBits64}
-use Rattle.book.specs.ExactlyOnce.{after, In, Given, Once, seen}
+use Rattle.book.specs.ExactlyOnce.{after, Given}
 use Rattle.book.specs.Kernels.{uncontrolled, kernelRefusal, swapRefusal, swapped, bitFlipRefusal}
 use Rattle.book.specs.Measuring.{measured, measureRefusal, probability, summed}
-use Rattle.book.specs.Records.{writeRecord, readRecord, listed}
-use Rattle.book.specs.Sessions.{session, act, deliver, deliverAll}
+use Rattle.book.specs.Sessions.{session, act}
 use Rattle.book.specs.State.{tabulate, held, chosen, choice, placed, onPairs}
 use Rattle.book.specs.declared.Angle.{Angle}
 use Rattle.book.specs.declared.Angles.{Angles}
 use Rattle.book.specs.declared.Gate.{Gate}
 use Rattle.book.specs.declared.Gate.the-variants.{H, X, Y, Z, P, Rx, Ry, Rz, U, Swap, Measure, BitFlip}
 use Rattle.book.specs.declared.Record.{Record}
-use Rattle.book.proofs.ExactlyOnce.{exactly-once}
 
 -- 0.6 and 0.8, rounded
 abbrev angle : Angle

@@ -1,13 +1,12 @@
 -- A gate, taken or refused, leaves buffers of the length that n asks: each is a table of 2 ^ n places, or what was there. Assumes nothing.
 use Prim.Native.Nat.{ℕ, zero, suc, _^_}
-use mathlib.Core.Bool.{Bool, true, false, cond, not, _&&_, _||_}
-use mathlib.Core.List.{List, [], _∷_}
+use mathlib.Core.Bool.{Bool, true, false, cond, _&&_}
 use mathlib.Core.Path.{_≡_, refl, ap}
 use borrow.Author.Tests.{eq-eqb}
 use lib.Dec.{eqb}
 use lib.Ieee.{le}
 use lib.ListN.{length}
-use Rattle.book.specs.Answers.{taken, value, Buffers, Outcome, outcome, unless}
+use Rattle.book.specs.Answers.{Buffers, Outcome, outcome, unless}
 use Rattle.book.specs.Gates.{PairGate, xRule}
 use Rattle.book.specs.Kernels.{badLength, uncontrolled, kernel, kernelRefusal, swap, swapRefusal, swapped, bitFlip, bitFlipRefusal}
 use Rattle.book.specs.Measuring.{measure, measured, measureRefusal}

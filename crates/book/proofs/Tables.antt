@@ -1,10 +1,10 @@
 -- Buffers and the states that they hold: the table of a state holds it, place by place, and is the only one of its length that does. Assumes nothing.
 use Prim.Native.Nat.{ℕ, zero, suc, _+_, _<_}
 use mathlib.Core.List.{List}
-use mathlib.Core.Path.{_≡_, refl, sym, ap, ap₂, _∙_}
+use mathlib.Core.Path.{_≡_, sym, ap, ap₂, _∙_}
 use native.Mathlib.Nat.{zero-add}
 use native.Mathlib.Omega.{arith}
-use lib.Ieee.{Float, nan}
+use lib.Ieee.{nan}
 use lib.ListN.{length, getD}
 use lib.Seq.{ext-getD}
 use Rattle.book.specs.Answers.{Buffers, buffers}

@@ -1,24 +1,22 @@
 -- A gate whose rule undoes itself undoes itself: both places of a pair are chosen or none, so the second turn meets the pairs of the first. SWAP likewise:
 -- the index with two bits exchanged, with them exchanged once more, is the index. Assumes nothing.
-use Prim.Native.Nat.{ℕ, zero, suc, _+_, _-_, _*_, _^_, _≤_, _<_}
+use Prim.Native.Nat.{ℕ, zero, suc, _+_, _-_, _*_, _^_, _<_}
 use mathlib.Core.Bool.{Bool, true, false}
-use mathlib.Core.List.{[], _∷_}
 use mathlib.Core.Logic.{⊎-elim}
 use mathlib.Core.Path.{_≡_, refl, sym, ap, ap₂, _∙_, subst}
 use native.Mathlib.Omega.{arith}
 use borrow.Author.Tests.{eqb-false, leb-false}
 use lib.Bits.{bitAnd, and-comm}
-use lib.Dec.{eqb, leb, ltb}
+use lib.Dec.{eqb, leb}
 use lib.ListN.{length}
-use Rattle.book.specs.Answers.{Test, _⇒_, first, Buffers, Outcome, unless}
+use Rattle.book.specs.Answers.{Buffers}
 use Rattle.book.specs.Gates.{PairGate, xGate}
-use Rattle.book.specs.Kernels.{badSize, badLength, mostQubits, outside, clash, kernel, kernelTests, kernelRefusal, exchanged, swap, swapTests, swapRefusal, swapped}
+use Rattle.book.specs.Kernels.{badLength, outside, kernel, kernelTests, kernelRefusal, exchanged, swap, swapTests, swapRefusal, swapped}
 use Rattle.book.specs.State.{State, at, held, bit, chosen, Choice, half, choice, pair, placeBy, placed, onPairs}
 use Rattle.book.specs.Twice.{Undoes, XTwice, SwapTwice}
-use Rattle.book.specs.declared.Amplitude.{Amplitude}
 use Rattle.book.specs.declared.Controls.{Controls}
 use Rattle.book.specs.declared.Pair.{Pair}
-use Rattle.book.proofs.Bits.{bit-lt, halves, bit-up, bit-down, bit-le, down-up, bit-other, up-lt, and-add}
+use Rattle.book.proofs.Bits.{bit-lt, halves, bit-up, bit-down, down-up, bit-other, up-lt, and-add}
 use Rattle.book.proofs.Lengths.{held-fits, pairs-fit}
 use Rattle.book.proofs.Refusals.{clear, neither, right-lengths}
 use Rattle.book.proofs.Tables.{at-held, held-only}

@@ -7,10 +7,10 @@ use mathlib.Core.Logic.{_⊎_}
 use mathlib.Core.Option.{Option, some, none}
 use mathlib.Core.Path.{_≡_}
 use lib.ListN.{length, take}
-use Rattle.book.specs.Answers.{Buffers, Outcome}
+use Rattle.book.specs.Answers.{Buffers}
 use Rattle.book.specs.Kernels.{badLength}
 use Rattle.book.specs.Records.{readRecord}
-use Rattle.book.specs.Sessions.{session, start, act, accepts, Delivery, deliver, Bench, deliverAll}
+use Rattle.book.specs.Sessions.{session, start, act, accepts, Delivery, deliver, deliverAll}
 use Rattle.book.specs.declared.Record.{Record}
 
 -- ---- the longest start of a list found in order

@@ -10,7 +10,7 @@ use lib.Ieee.Scale.{finite}
 use lib.ListN.{length}
 use Rattle.book.specs.Answers.{taken, value, Test, _⇒_, first, Buffers, Outcome, outcome, unless}
 use Rattle.book.specs.Gates.{PairGate, xRule, noiseOf}
-use Rattle.book.specs.State.{State, at, held, bit, onPairs}
+use Rattle.book.specs.State.{at, held, bit, onPairs}
 use Rattle.book.specs.declared.Controls.{Controls}
 use Rattle.book.specs.declared.Noise.{Noise}
 

@@ -1,13 +1,13 @@
 -- Dense matrices of side 2 ^ n, n from 1 to 6, real and imaginary parts in two buffers, row by row. Definitions only. Assumes nothing.
 use Prim.Native.Nat.{ℕ, zero, suc, _+_, _-_, _*_, _/_, _%_, _^_}
-use mathlib.Core.Bool.{Bool, not, cond, _||_}
+use mathlib.Core.Bool.{not, cond, _||_}
 use mathlib.Core.List.{List, [], _∷_, _++_}
 use lib.Dec.{eqb, leb}
 use lib.Ieee.{Float}
 use Rattle.book.specs.Answers.{taken, Test, _⇒_, first, Buffers, Outcome, outcome, unless}
 use Rattle.book.specs.Gates.{_⊕_, _⊖_, _⊗_, −_, nought, entry}
 use Rattle.book.specs.Kernels.{badSize, badLength, allFinite}
-use Rattle.book.specs.State.{State, amplitude, at, held, bit}
+use Rattle.book.specs.State.{amplitude, at, held, bit}
 use Rattle.book.specs.declared.Amplitude.{Amplitude}
 use Rattle.book.specs.declared.Matrix.{Matrix}
 

@@ -1,9 +1,9 @@
 -- A measurement, refused or taken, in the code's terms: it is judged as a gate without controls and numbers, then by its forced outcome and its probability.
 -- Assumes nothing.
-use Prim.Native.Nat.{ℕ, zero, suc, _^_, _≤_, _<_}
-use mathlib.Core.Bool.{Bool, true, false, cond, not, _&&_, _||_}
+use Prim.Native.Nat.{ℕ, zero, suc, _^_}
+use mathlib.Core.Bool.{Bool, true, false, cond, _&&_}
 use mathlib.Core.List.{[], _∷_}
-use mathlib.Core.Path.{_≡_, refl, sym, ap, ap₂, _∙_, subst}
+use mathlib.Core.Path.{_≡_, refl, sym, ap, _∙_, subst}
 use native.Mathlib.Omega.{arith}
 use types.Run.{OneOf}
 use denote.Enum.Declared.{tagOf}
@@ -16,7 +16,7 @@ use Rattle.book.proofs.Lengths.{held-fits}
 use Rattle.book.proofs.Calls.{refuses, takes}
 use Rattle.book.proofs.Refusals.{right-lengths, right-size}
 use Rattle.book.proofs.Zero.{one-is}
-use Rattle.book.specs.Answers.{Said, taken, value, refused, says, Test, _⇒_, first, Buffers, Outcome, outcome, unless, Does}
+use Rattle.book.specs.Answers.{taken, value, refused, says, _⇒_, first, Buffers, Outcome, outcome, unless, Does}
 use Rattle.book.specs.Gates.{PairGate, pairGate, xRule, xGate}
 use Rattle.book.specs.Kernels.{badSize, mostQubits, badLength, uncontrolled, kernel, kernelRefusal}
 use Rattle.book.specs.Measuring.{summed, probability, collapsed, scale, measured, badForced, badChance, measure, measureRefusal}
@@ -28,7 +28,7 @@ use Rattle.book.specs.declared.Refusal.the-variants.{Number, Chance}
 use Rattle.state.proofs.Answers.{keeps, passed}
 use Rattle.state.proofs.Free.{free-refusal}
 use Rattle.state.proofs.Refusals.{accepted}
-use Rattle.state.specs.Judging.{verdict, Judged, Accepted}
+use Rattle.state.specs.Judging.{verdict, Judged}
 use Rattle.measurement.specs.Steps.{Sized, Reset}
 
 -- a gate without numbers, as the judge sees it

@@ -6,11 +6,11 @@ use native.Mathlib.Omega.{arith}
 use borrow.Author.Tests.{eq-eqb, ne-eqb}
 use lib.Ieee.{Float, binary64, ofBits}
 use Rattle.book.specs.Answers.{Buffers}
-use Rattle.book.specs.Gates.{_⊕_, nought}
+use Rattle.book.specs.Gates.{_⊕_}
 use Rattle.book.specs.Measuring.{square, summed}
 use Rattle.book.specs.State.{State, at, bit}
 use Rattle.measurement.specs.Steps.{Sized, Lower}
-use Rattle.measurement.proofs.Blocks.{Base, first, room, next, low, high, ended}
+use Rattle.state.proofs.Blocks.{Base, first, room, next, low, high, ended}
 
 pub sum-none : (t : ℕ) (s : State) → ofBits binary64 0 ≡ summed t 0 s 0
 unfolding summed ofBits
@@ -62,3 +62,6 @@ module _ {n t : ℕ} {b : Buffers} (ok : Sized n t b) where
 
   pub sums-end : {base : ℕ} {sum : Float} → Summing n t b base sum → 2 ^ n ≤ base → sum ≡ summed t 0 (at b) (2 ^ n)
   sums-end u l = u .so-far ∙ ap (summed t 0 (at b)) (ended (u .block) l)
+
+pub small : {n t : ℕ} {b : Buffers} → Sized n t b → t ≤ 24
+small ok = omega (arith, ok .fits, ok .qubit)

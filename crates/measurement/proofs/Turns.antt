@@ -15,9 +15,8 @@ use Rattle.book.specs.Measuring.{collapsed}
 use Rattle.book.specs.State.{State, amplitude, at, held, bit}
 use Rattle.book.specs.declared.Amplitude.{Amplitude}
 use Rattle.state.proofs.Halves.{turn-none, turn-join, turn-one}
-use Rattle.state.specs.Pairs.{SameSize, Turned}
 use Rattle.measurement.specs.Steps.{Sized, Stretch, halfOf, Turns}
-use Rattle.measurement.proofs.Blocks.{Base, first, room, next, low, high, ended}
+use Rattle.state.proofs.Blocks.{Base, first, room, next, low, high, ended}
 
 module _ (f : ℕ → Amplitude → Amplitude) where
   pub none : (from : ℕ) (b : Buffers) → Turns f from from b b

@@ -1,7 +1,6 @@
 // The chosen half is multiplied by r, and the other half becomes +0.0, block by block.
-ghost use mathlib.Core.Bool.{Bool};
 ghost use mathlib.Core.Path.{_≡_};
-ghost use Prim.Native.Nat.{ℕ, _+_, _≤_, _<_, _^_};
+ghost use Prim.Native.Nat.{_+_, _<_, _^_};
 ghost use Rattle.book.specs.Answers.{buffers};
 ghost use Rattle.book.specs.Measuring.{collapsed};
 ghost use Rattle.book.specs.State.{at, held};

@@ -9,7 +9,7 @@ use book::Refusal;
 use collapse::collapse;
 use probability::sum_lower;
 ghost use mathlib.Core.Path.{_≡_};
-ghost use Prim.Native.Nat.{_≤_, _<_, _^_};
+ghost use Prim.Native.Nat.{_<_};
 ghost use Rattle.book.specs.Answers.{buffers, Does};
 ghost use Rattle.book.specs.Measuring.{probability, badForced, badChance, measure, scale};
 ghost use Rattle.book.specs.State.{at};

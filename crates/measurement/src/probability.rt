@@ -1,6 +1,6 @@
 // The probability of outcome 0: from 0.0, the squares at the indices with target bit 0, rising, block by block.
 ghost use mathlib.Core.Path.{_≡_};
-ghost use Prim.Native.Nat.{ℕ, _+_, _*_, _≤_, _<_, _^_};
+ghost use Prim.Native.Nat.{_+_, _*_, _<_, _^_};
 ghost use Rattle.book.specs.Answers.{buffers};
 ghost use Rattle.book.specs.Measuring.{summed};
 ghost use Rattle.book.specs.State.{at};

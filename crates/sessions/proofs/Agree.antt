@@ -4,7 +4,7 @@ use mathlib.Core.Path.{_≡_, refl, sym, ap, ap₂, _∙_}
 use Rattle.book.proofs.Agree.{refusalOf, refusal-back}
 use Rattle.book.specs.Answers.{taken, value, refused, Replied, again, said, Buffers}
 use Rattle.book.specs.Sessions as Book
-use Rattle.sessions.specs.Deliveries.{meant, replies, Delivers}
+use Rattle.sessions.specs.Deliveries.{replies, Delivers}
 use Rattle.sessions.specs.declared.Delivered.{Delivered}
 use Rattle.sessions.specs.declared.Reply.{Reply}
 use Rattle.sessions.specs.declared.Reply.the-variants.{Taken, Value, Again, Refused}

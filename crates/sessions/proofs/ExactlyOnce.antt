@@ -1,14 +1,14 @@
 -- Demand 3 of the code: a run of the code is the run of the definitions, so what the book proves of that one holds of this one. Assumes nothing.
 use Prim.Native.Nat.{ℕ}
-use mathlib.Core.List.{List, [], _∷_}
+use mathlib.Core.List.{List}
 use mathlib.Core.Option.{Option, some}
-use mathlib.Core.Path.{_≡_, refl, sym, ap, ap₂, _∙_, subst}
+use mathlib.Core.Path.{_≡_, refl, sym, ap, ap₂, _∙_}
 use Rattle.book.proofs.ExactlyOnce as Definitions
 use Rattle.book.specs.Answers.{Buffers}
 use Rattle.book.specs.ExactlyOnce as Statement
 use Rattle.book.specs.Sessions as Book
-use Rattle.sessions.specs.Deliveries.{meant, startedOf, Delivers}
-use Rattle.sessions.specs.ExactlyOnce.{Ran, none, call, Once, ExactlyOnce}
+use Rattle.sessions.specs.Deliveries.{meant, startedOf}
+use Rattle.sessions.specs.ExactlyOnce.{Ran, none, call, ExactlyOnce}
 use Rattle.sessions.specs.declared.Session.{Session}
 use Rattle.sessions.specs.declared.Started.the-variants.{Fresh}
 

@@ -1,16 +1,15 @@
 -- A gate that is refused leaves the buffers as they were: each definition is a refusal that keeps them, or work that is taken. Assumes nothing.
 use Prim.Native.Nat.{ℕ, zero, suc}
 use mathlib.Core.Bool.{Bool, true, false, cond}
-use mathlib.Core.Path.{_≡_, refl, sym, _∙_}
+use mathlib.Core.Path.{_≡_, refl}
 use native.Mathlib.Omega.{arith}
 use lib.Ieee.{le}
-use Rattle.book.specs.Answers.{Said, value, Buffers, Outcome, outcome, unless}
-use Rattle.book.specs.Gates.{PairGate, xRule}
+use Rattle.book.specs.Answers.{value, Buffers, Outcome, outcome, unless}
+use Rattle.book.specs.Gates.{xRule}
 use Rattle.book.specs.Kernels.{uncontrolled, kernelRefusal, swapRefusal, bitFlipRefusal}
 use Rattle.book.specs.Measuring.{measureRefusal}
 use Rattle.book.specs.Sessions.{act, accepts}
 use Rattle.book.specs.State.{onPairs}
-use Rattle.book.specs.declared.Controls.{Controls}
 use Rattle.book.specs.declared.Gate.{Gate}
 use Rattle.book.specs.declared.Gate.the-variants.{H, X, Y, Z, P, Rx, Ry, Rz, U, Swap, Measure, BitFlip}
 

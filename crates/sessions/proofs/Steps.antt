@@ -1,16 +1,15 @@
 -- A delivery, test by test, in the code's terms: each test that applies, with those before it passed, gives the answer. Assumes nothing.
-use Prim.Native.Nat.{ℕ, _+_, _^_, _≤_, _<_}
-use mathlib.Core.Bool.{true, false, cond, not, _||_}
+use Prim.Native.Nat.{ℕ, _^_, _≤_, _<_}
+use mathlib.Core.Bool.{true, false}
 use mathlib.Core.List.{List}
 use mathlib.Core.Option.{Option, some, none}
 use mathlib.Core.Path.{_≡_, refl, sym, ap, _∙_, subst}
 use native.Mathlib.Omega.{arith}
 use borrow.Author.Tests.{lt-ltb, le-ltb, eq-eqb, ne-eqb}
-use lib.Dec.{ltb, eqb}
 use lib.ListN.{length}
 use Rattle.book.proofs.Refusals.{too-small, too-large, right-size}
-use Rattle.book.specs.Answers.{says, numberOf, taken, value, refused, again, said, Replied, Buffers, Outcome, Does}
-use Rattle.book.specs.Kernels.{badSize, mostQubits, badLength}
+use Rattle.book.specs.Answers.{says, Replied, Buffers, Outcome, Does}
+use Rattle.book.specs.Kernels.{mostQubits, badLength}
 use Rattle.book.specs.Records.{readRecord, readOf}
 use Rattle.book.specs.Sessions as Book
 use Rattle.book.specs.Sessions.{act, accepts, kept, counted, takeRecord, takeRead, deliver}
@@ -21,7 +20,7 @@ use Rattle.book.specs.declared.Read.the-variants.{Record as Found, Refused as U
 use Rattle.book.specs.declared.Record.{Record}
 use Rattle.book.specs.declared.Refusal.{Refusal}
 use Rattle.book.specs.declared.Refusal.the-variants.{Size, Length, Session as Other, Early, Full, Record as NoRecord}
-use Rattle.sessions.specs.Deliveries.{meant, replies, told, raised, countedOf, Delivers}
+use Rattle.sessions.specs.Deliveries.{meant, replies, told, countedOf, Delivers}
 use Rattle.sessions.specs.declared.Delivered.{Delivered}
 use Rattle.sessions.specs.declared.Reply.{Reply}
 use Rattle.sessions.specs.declared.Reply.the-variants.{Again, Refused as Refused′}

@@ -1,12 +1,11 @@
 -- What a session, a reply and an answer of this crate mean in 01's words, and a delivery's whole contract. Definitions only. Assumes nothing.
-use Prim.Native.Nat.{ℕ, _+_}
+use Prim.Native.Nat.{_+_}
 use mathlib.Core.Option.{Option, some, none}
 use mathlib.Core.Path.{_≡_}
 use Rattle.book.specs.Answers.{numberOf, taken, value, refused, Replied, again, said, Buffers}
 use Rattle.book.specs.Sessions as Book
 use Rattle.book.specs.declared.Answer.{Answer}
 use Rattle.book.specs.declared.Answer.the-variants.{Taken, Value, Refused}
-use Rattle.book.specs.declared.Refusal.{Refusal}
 use Rattle.book.specs.declared.Refusal.the-variants.{Size}
 use Rattle.sessions.specs.declared.Delivered.{Delivered}
 use Rattle.sessions.specs.declared.Reply.{Reply}

@@ -8,7 +8,7 @@ use book::Read;
 use book::Record;
 use book::Refusal;
 ghost use mathlib.Core.Path.{_≡_};
-ghost use Prim.Native.Nat.{_+_, _≤_, _<_, _^_};
+ghost use Prim.Native.Nat.{_+_, _<_};
 ghost use Rattle.book.specs.Answers.{buffers, Does};
 ghost use Rattle.book.specs.Sessions.{takeRecord, deliver};
 ghost use Rattle.book.specs.Sessions as Book;

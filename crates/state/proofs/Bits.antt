@@ -1,57 +1,17 @@
 -- Laws of bits: one bit of a number, `and` with a bit more, and the next number that has all bits of a set. Assumes nothing.
-use Prim.Native.Nat.{ℕ, zero, suc, _+_, _-_, _*_, _/_, _%_, _^_, _≤_, _<_, min, max}
-use mathlib.Core.Logic.{_⊎_, inl, inr, ⊎-elim}
-use mathlib.Core.Path.{_≡_, refl, sym, ap, ap₂, _∙_}
-use native.Mathlib.Nat.{pow-suc, mod-lt, div-one, div-div-eq-div-mul, mul-comm, mul-assoc, add-div-right, le-div-iff-mul-le, zero-lt-suc, div-lt-iff-lt-mul, mul-div-cancel, div-eq-of-lt, zero-div, zero-add}
+use Prim.Native.Nat.{ℕ, suc, _+_, _-_, _*_, _/_, _%_, _^_, _≤_, _<_, max}
+use mathlib.Core.Logic.{⊎-elim}
+use mathlib.Core.Path.{_≡_, sym, ap, _∙_}
+use native.Mathlib.Nat.{pow-suc, mod-lt, add-div-right, zero-lt-suc, mul-div-cancel, div-eq-of-lt, zero-div, zero-add}
 use native.Mathlib.Decide.{decLt}
 use native.Mathlib.Numerals.{add-one}
 use native.Mathlib.Omega.{arith}
 use lib.Arith.{bin-ind}
 use lib.Bits.{bitAnd, bitOr, and-self, and-step, or-step, and-comm, and-le-r, and-zero-r, or-add-and}
 use lib.Pow.{pow-pos, pow-add, pow-lt}
+use Rattle.book.proofs.Bits as Book
 use Rattle.book.specs.State.{bit}
-
-pub bit-lt : (t i : ℕ) → bit t i < 2
-bit-lt t i = mod-lt (i / 2 ^ t) (zero-lt-suc 1)
-
-two : (x : ℕ) → x < 2 → (x ≡ 0) ⊎ (x ≡ 1)
-two zero l = inl refl
-two (suc zero) l = inr refl
-two (suc (suc x)) l = absurd (omega arith)
-
-pub halves : (t i : ℕ) → (bit t i ≡ 0) ⊎ (bit t i ≡ 1)
-halves t i = two (bit t i) (bit-lt t i)
-
-bit-zero : (i : ℕ) → bit 0 i ≡ i % 2
-bit-zero i = ap (λ (x : ℕ). x % 2) (div-one i)
-
-bit-suc : (t i : ℕ) → bit (suc t) i ≡ bit t (i / 2)
-bit-suc t i = ap (λ (x : ℕ). x % 2) (ap (λ (p : ℕ). i / p) (pow-suc 2 t ∙ mul-comm (2 ^ t) 2) ∙ sym (div-div-eq-div-mul i 2 (2 ^ t)))
-
--- a bit of m that is 0, set: it is `and` of that bit beside the rest
-pub and-add : (t i m : ℕ) → bit t m ≡ 0 → bitAnd i (m + 2 ^ t) ≡ bitAnd i m + bit t i * 2 ^ t
-and-add zero i m e =
-    let e′ : m % 2 ≡ 0 = sym (bit-zero m) ∙ e in
-    let h : (m + 1) / 2 ≡ m / 2 = omega arith in
-    let o : (m + 1) % 2 ≡ 1 = omega arith in
-    let x2 : i % 2 < 2 = mod-lt i (zero-lt-suc 1) in
-    let s1 : bitAnd i (m + 1) ≡ bitAnd (i / 2) (m / 2) * 2 + min (i % 2) 1 =
-    and-step i (m + 1) ∙ ap₂ (λ (x y : ℕ). bitAnd (i / 2) x * 2 + min (i % 2) y) h o in
-    let s2 : bitAnd i m ≡ bitAnd (i / 2) (m / 2) * 2 + min (i % 2) 0 =
-    and-step i m ∙ ap (λ (y : ℕ). bitAnd (i / 2) (m / 2) * 2 + min (i % 2) y) e′ in
-    let b : bit 0 i ≡ i % 2 = bit-zero i in
-    rw b (omega arith)
-and-add (suc t) i m e =
-    let p : 2 ^ suc t ≡ 2 ^ t * 2 = pow-suc 2 t in
-    let h : (m + 2 ^ suc t) / 2 ≡ m / 2 + 2 ^ t = omega arith in
-    let o : (m + 2 ^ suc t) % 2 ≡ m % 2 = omega arith in
-    let ih : bitAnd (i / 2) (m / 2 + 2 ^ t) ≡ bitAnd (i / 2) (m / 2) + bit t (i / 2) * 2 ^ t = and-add t (i / 2) (m / 2) (sym (bit-suc t m) ∙ e) in
-    let s1 : bitAnd i (m + 2 ^ suc t) ≡ bitAnd (i / 2) (m / 2 + 2 ^ t) * 2 + min (i % 2) (m % 2) =
-    and-step i (m + 2 ^ suc t) ∙ ap₂ (λ (x y : ℕ). bitAnd (i / 2) x * 2 + min (i % 2) y) h o in
-    let s2 : bitAnd i m ≡ bitAnd (i / 2) (m / 2) * 2 + min (i % 2) (m % 2) = and-step i m in
-    let b : bit (suc t) i ≡ bit t (i / 2) = bit-suc t i in
-    let q : bit (suc t) i * 2 ^ suc t ≡ bit t (i / 2) * 2 ^ t * 2 = ap₂ (λ (x y : ℕ). x * y) b p ∙ sym (mul-assoc (bit t (i / 2)) (2 ^ t) 2) in
-    s1 ∙ omega arith
+pub use Rattle.book.proofs.Bits.{bit-lt, halves, and-add, bit-up, bit-le, bit-down, up-lt}
 
 pub or-ge : (a f : ℕ) → a ≤ bitOr a f
 or-ge a f = omega (arith, or-add-and a f, and-le-r a f)
@@ -86,36 +46,13 @@ next-least i =
     let h : (n + 1) / 2 ≡ n / 2 + 1 = omega arith in
     let s′ : bitOr (n + 1) f ≡ bitOr (n / 2 + 1) (f / 2) * 2 + max ((n + 1) % 2) (f % 2) = s ∙ ap (λ (x : ℕ). bitOr x (f / 2) * 2 + max ((n + 1) % 2) (f % 2)) h in
     omega (arith, ih (f / 2) (j / 2) en ej (omega arith)))
-    (two (n % 2) (mod-lt n (zero-lt-suc 1)))) i
+    (Book.zero-or-one (n % 2) (mod-lt n (zero-lt-suc 1)))) i
 
 -- ---- a bit set and taken away
-
-pub bit-up : (t i : ℕ) → bit t i ≡ 0 → bit t (i + 2 ^ t) ≡ 1
-bit-up t i e = let d : (i + 2 ^ t) / 2 ^ t ≡ i / 2 ^ t + 1 = add-div-right i (pow-pos t) in omega arith
-
-pub bit-le : (t i : ℕ) → bit t i ≡ 1 → 2 ^ t ≤ i
-bit-le t i e = let h : 1 ≤ i / 2 ^ t = omega arith in omega (arith, le-div-iff-mul-le (pow-pos t) .0 h)
 
 -- what had the bit once 2 ^ t was added had it not before
 pub bit-before : (t i : ℕ) → bit t (i + 2 ^ t) ≡ 1 → bit t i ≡ 0
 bit-before t i e = let d : (i + 2 ^ t) / 2 ^ t ≡ i / 2 ^ t + 1 = add-div-right i (pow-pos t) in omega arith
-
-pub bit-down : (t i : ℕ) → bit t i ≡ 1 → bit t (i - 2 ^ t) ≡ 0
-bit-down t i e =
-    let l : 2 ^ t ≤ i = bit-le t i e in
-    let b : i - 2 ^ t + 2 ^ t ≡ i = omega arith in
-    bit-before t (i - 2 ^ t) (ap (bit t) b ∙ e)
-
--- a place of n qubits with the bit t set is one of them too
-pub up-lt : (n t i : ℕ) → t < n → i < 2 ^ n → bit t i ≡ 0 → i + 2 ^ t < 2 ^ n
-up-lt n t i h l e =
-    let k : ℕ = n - suc t in
-    let nk : n ≡ k + 1 + t = omega arith in
-    let p : 2 ^ n ≡ 2 ^ (k + 1) * 2 ^ t = ap (λ (x : ℕ). 2 ^ x) nk ∙ pow-add 2 (k + 1) t in
-    let q : 2 ^ (k + 1) ≡ 2 ^ k * 2 = rw add-one (pow-suc 2 k) in
-    let dl : i / 2 ^ t < 2 ^ (k + 1) = div-lt-iff-lt-mul (pow-pos t) .1 (rw p at l) in
-    let dl′ : (i + 2 ^ t) / 2 ^ t < 2 ^ (k + 1) = rw (add-div-right i (pow-pos t)) (omega arith) in
-    rw p (div-lt-iff-lt-mul (pow-pos t) .0 dl′)
 
 -- ---- numbers that have all bits of a set that has the bit t
 
@@ -178,7 +115,4 @@ and-of-bit t i o = let s : bitAnd i (2 ^ t) ≡ 1 * 2 ^ t = rw o at (single t i)
 
 -- a bit set changes no other
 pub bit-other : (t u i : ℕ) → (t ≡ u → ⊥) → bit t i ≡ 0 → bit u (i + 2 ^ t) ≡ bit u i
-bit-other t u i ne z =
-    let a : bitAnd (i + 2 ^ t) (2 ^ u) ≡ bitAnd i (2 ^ u) = and-up t (2 ^ u) (bit-pow t u ne) i z in
-    let b : bit u (i + 2 ^ t) * 2 ^ u ≡ bit u i * 2 ^ u = sym (single u (i + 2 ^ t)) ∙ a ∙ single u i in
-    sym (mul-div-cancel (bit u (i + 2 ^ t)) (pow-pos u)) ∙ ap (λ (x : ℕ). x / 2 ^ u) b ∙ mul-div-cancel (bit u i) (pow-pos u)
+bit-other t u i ne z = Book.bit-other u t i (λ e. ne (sym e)) z

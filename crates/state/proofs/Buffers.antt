@@ -1,17 +1,17 @@
 -- Two buffers as a state: what a store to two places does, and when buffers are those that hold a state. Assumes nothing.
-use Prim.Native.Nat.{ℕ, zero, suc, _+_, _^_, _<_}
+use Prim.Native.Nat.{ℕ, _<_}
 use mathlib.Core.List.{List}
-use mathlib.Core.Path.{_≡_, refl, sym, ap, ap₂, _∙_}
-use native.Mathlib.Nat.{zero-add}
+use mathlib.Core.Path.{_≡_, ap, ap₂, _∙_}
 use native.Mathlib.Omega.{arith}
-use lib.Ieee.{Float, nan}
+use lib.Ieee.{nan}
 use lib.ListN.{length, getD, set, length-set}
-use lib.Seq.{getD-set-same, getD-set-other, ext-getD}
+use lib.Seq.{getD-set-same, getD-set-other}
 use Rattle.book.specs.Answers.{Buffers, buffers}
-use Rattle.book.specs.State.{State, amplitude, at, tabulate, held, pair}
-use Rattle.book.specs.declared.Amplitude.{Amplitude}
+use Rattle.book.specs.State.{State, amplitude, at, held, pair}
 use Rattle.book.specs.declared.Pair.{Pair}
 use Rattle.state.specs.Pairs.{TwoPlaces, Stepped, SameSize}
+use Rattle.book.proofs.Lengths.{tabulate-length}
+pub use Rattle.book.proofs.Tables.{held-only as held-ext, at-held}
 
 -- ---- two stores to one list
 module _ {A : Type 0} (l : List A) (s0 s1 : ℕ) (x y d : A) where
@@ -50,46 +50,16 @@ stepped rule e g w =
       others = w .others;
     }
 
--- ---- the tabulated list
-pub length-tabulate : {A : Type 0} (f : ℕ → A) (from count : ℕ) → length (tabulate f from count) ≡ count
-unfolding tabulate
-length-tabulate f from zero = refl
-length-tabulate f from (suc count) = ap suc (length-tabulate f (suc from) count)
-
-getD-tabulate : {A : Type 0} (f : ℕ → A) (from count i : ℕ) (d : A) → i < count → getD (tabulate f from count) i d ≡ f (from + i)
-unfolding tabulate
-getD-tabulate f from zero i d l = absurd (omega arith)
-getD-tabulate f from (suc count) zero d l = ap f (omega arith)
-getD-tabulate f from (suc count) (suc i) d l = getD-tabulate f (suc from) count i d (omega arith) ∙ ap f (omega arith)
-
-tabulate-ext : {A : Type 0} (d : A) (l : List A) (f : ℕ → A) (count : ℕ) → length l ≡ count → ((i : ℕ) → i < count → getD l i d ≡ f i) → l ≡ tabulate f 0 count
-tabulate-ext d l f count e h =
-    ext-getD d l (tabulate f 0 count) (e ∙ sym (length-tabulate f 0 count))
-    (λ i il. h i (omega arith) ∙ sym (getD-tabulate f 0 count i d (omega arith) ∙ ap f (zero-add i)))
-
 -- ---- buffers hold a state if they do at each place
-pub held-ext : (size : ℕ) (s : State) (b : Buffers) → length (b .reals) ≡ size → length (b .imags) ≡ size → ((i : ℕ) → i < size → at b i ≡ s i) → b ≡ held size s
-unfolding held
-held-ext size s b lr li same =
-    ap₂ buffers
-    (tabulate-ext nan (b .reals) (λ i. s i .re) size lr (λ i il. ap (λ (z : Amplitude). z .re) (same i il)))
-    (tabulate-ext nan (b .imags) (λ i. s i .im) size li (λ i il. ap (λ (z : Amplitude). z .im) (same i il)))
 
 module _ (size : ℕ) (s : State) where
-  pub at-held : (i : ℕ) → i < size → at (held size s) i ≡ s i
-  unfolding held
-  at-held i l =
-      ap₂ amplitude
-      (getD-tabulate (λ j. s j .re) 0 size i nan l ∙ ap (λ (j : ℕ). s j .re) (zero-add i))
-      (getD-tabulate (λ j. s j .im) 0 size i nan l ∙ ap (λ (j : ℕ). s j .im) (zero-add i))
-
   pub reals-held : length (held size s .reals) ≡ size
   unfolding held
-  reals-held = length-tabulate (λ i. s i .re) 0 size
+  reals-held = tabulate-length (λ i. s i .re) 0 size
 
   pub imags-held : length (held size s .imags) ≡ size
   unfolding held
-  imags-held = length-tabulate (λ i. s i .im) 0 size
+  imags-held = tabulate-length (λ i. s i .im) 0 size
 
 pub held-same : (size : ℕ) (s s′ : State) → ((i : ℕ) → i < size → s i ≡ s′ i) → held size s ≡ held size s′
 held-same size s s′ same = held-ext size s′ (held size s) (reals-held size s) (imags-held size s) (λ i l. at-held size s i l ∙ same i l)

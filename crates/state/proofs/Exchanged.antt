@@ -1,19 +1,17 @@
 -- SWAP: the pairs that it exchanges are those of the keys that have both bits, and exchanged twice every place is itself. Assumes nothing.
-use Prim.Native.Nat.{ℕ, zero, suc, _+_, _-_, _*_, _^_, _≤_, _<_}
-use mathlib.Core.Logic.{_⊎_, inl, inr, ⊎-elim}
-use mathlib.Core.Path.{_≡_, refl, sym, ap, ap₂, _∙_, subst}
-use native.Mathlib.Decide.{ℕ-discrete}
+use Prim.Native.Nat.{ℕ, _+_, _-_, _^_, _≤_, _<_}
+use mathlib.Core.Logic.{⊎-elim}
+use mathlib.Core.Path.{_≡_, sym, ap, _∙_, subst}
 use native.Mathlib.Omega.{arith}
-use lib.Bits.{bitAnd}
 use lib.ListN.{length}
-use lib.Pow.{pow-pos, pow-lt}
+use lib.Pow.{pow-lt}
 use Rattle.book.specs.Answers.{Buffers}
 use Rattle.book.specs.Gates.{xRule}
 use Rattle.book.specs.Kernels.{exchanged, swapped}
-use Rattle.book.specs.State.{State, at, held, bit}
+use Rattle.book.specs.State.{State, at, bit}
 use Rattle.state.specs.Pairs.{Has, Paired, Keyed, Swept}
-use Rattle.state.proofs.Bits.{halves, bit-up, bit-le, bit-before, bit-down, up-lt, has-set, set-has, bit-pow, bit-of-and, and-of-bit, bit-other}
-use Rattle.state.proofs.Buffers.{held-ext, held-same, at-held, reals-held, imags-held}
+use Rattle.state.proofs.Bits.{halves, bit-up, bit-le, bit-before, up-lt, has-set, set-has, bit-pow, bit-of-and, and-of-bit, bit-other}
+use Rattle.state.proofs.Buffers.{held-ext, held-same}
 
 -- ---- the exchanged index, by the two bits
 module _ (t u i : ℕ) where
@@ -174,17 +172,3 @@ module _ (n t u : ℕ) (b : Buffers) where
     unfolding swapped
     swapped-itself e =
         held-ext (2 ^ n) (λ i. at b (exchanged t u i)) b reals imags (λ i l. ap (at b) (sym (exchanged-same t u i (ap (λ (x : ℕ). bit x i) e))))
-
-    -- SWAP twice restores every place
-    pub swapped-twice : t < n → u < n → swapped n t u (swapped n t u b) ≡ b
-    unfolding swapped
-    swapped-twice a c =
-        elim (ℕ-discrete t u) [
-          | yes e ↦ sym (swapped-itself e ∙ ap (swapped n t u) (swapped-itself e))
-          | no d ↦ sym
-              (held-ext (2 ^ n) (λ i. at (swapped n t u b) (exchanged t u i)) b reals imags
-              (λ i l.
-              sym
-              (at-held (2 ^ n) (λ j. at b (exchanged t u j)) (exchanged t u i) (exchanged-lt t u d i n a c l)
-              ∙ ap (at b) (exchanged-twice t u d i))))
-        ]

@@ -1,18 +1,16 @@
 -- Places turned one by one, over any function of the place: a walk along a lent part, and the upper half of each block in turn.
 -- What a gate that leaves s0 does is this, with the identity on the lower halves. Assumes nothing.
-use Prim.Native.Nat.{ℕ, zero, suc, _+_, _-_, _*_, _/_, _%_, _^_, _≤_, _<_}
+use Prim.Native.Nat.{ℕ, zero, suc, _+_, _-_, _*_, _^_, _≤_, _<_}
 use mathlib.Core.Bool.{Bool, true, false, cond}
-use mathlib.Core.List.{List}
 use mathlib.Core.Path.{_≡_, refl, sym, ap, ap₂, _∙_, subst}
-use native.Mathlib.Decide.{ℕ-discrete, decLt}
-use native.Mathlib.Nat.{pow-suc, mul-assoc, mul-comm, add-mul, one-mul, lt-of-mul-lt-mul-right, mul-le-mul-right}
+use native.Mathlib.Decide.{decLt}
+use native.Mathlib.Nat.{pow-suc, add-mul, one-mul}
 use native.Mathlib.Omega.{arith}
 use lib.Ieee.{Float, nan}
-use lib.ListN.{length, getD, set, length-set}
-use lib.Pow.{pow-pos, pow-add, high}
+use lib.ListN.{length, set, length-set}
 use lib.Seq.{getD-set-same, getD-set-other}
 use Rattle.book.specs.Answers.{Buffers, buffers}
-use Rattle.book.specs.State.{State, amplitude, at, held, bit, chosen, half, choice, pair, placeBy, placed, onPairs}
+use Rattle.book.specs.State.{State, amplitude, at, bit, chosen, half, choice, pair, placeBy, placed, onPairs}
 use Rattle.book.specs.declared.Amplitude.{Amplitude}
 use Rattle.book.specs.declared.Controls.{Controls}
 use Rattle.book.specs.declared.Pair.{Pair}
@@ -20,7 +18,7 @@ use Rattle.state.specs.Judging.{Seated}
 use Rattle.state.specs.Pairs.{SameSize, Turned}
 use Rattle.state.proofs.Buffers.{held-ext}
 use Rattle.state.proofs.Lending.{lent, returned, lent-reals, lent-place, back-same, back-inside, back-before, back-after}
-use Rattle.state.proofs.Shifts.{shl, shl-is, pow-le}
+use Rattle.state.proofs.Blocks.{Base, room, low, high as upper}
 
 module _ (f : ℕ → Amplitude → Amplitude) where
   -- no place yet
@@ -108,32 +106,17 @@ module _ (g : ℕ → Amplitude → Amplitude) (n t : ℕ) (qubit : t < n) (b₀
     more : 2 ^ suc t ≡ 2 ^ t + 2 ^ t
     more = omega (arith, pow-suc 2 t)
 
-    pub blocks-room : base + 2 ^ t + 2 ^ t ≤ 2 ^ n
-    blocks-room =
-        let k : ℕ = n - suc t in
-        let e : n ≡ k + suc t = omega arith in
-        let p : 2 ^ n ≡ 2 ^ k * 2 ^ suc t = ap (λ (x : ℕ). 2 ^ x) e ∙ pow-add 2 k (suc t) in
-        let q : u .block < 2 ^ k = lt-of-mul-lt-mul-right (2 ^ suc t) (omega (arith, u .here)) in
-        let r : (u .block + 1) * 2 ^ suc t ≤ 2 ^ k * 2 ^ suc t = mul-le-mul-right (2 ^ suc t) (let h : u .block + 1 ≤ 2 ^ k = omega arith in h) in
-        omega (arith, u .here, more, add-mul (u .block) 1 (2 ^ suc t), one-mul (2 ^ suc t))
+    starts : Base n t base
+    starts = record { block = u .block; here = u .here; within = u .within }
 
-    -- the digit of a place of the block
+    pub blocks-room : base + 2 ^ t + 2 ^ t ≤ 2 ^ n
+    blocks-room = room starts qubit l
+
     low-bit : (i : ℕ) → base ≤ i → i < base + 2 ^ t → bit t i ≡ 0
-    low-bit i x y =
-        let j : ℕ = i - base in
-        let m : u .block * 2 ^ suc t ≡ u .block * 2 * 2 ^ t = ap (λ (z : ℕ). u .block * z) (pow-suc 2 t ∙ mul-comm (2 ^ t) 2) ∙ sym (mul-assoc (u .block) 2 (2 ^ t)) in
-        let e : i ≡ u .block * 2 * 2 ^ t + j = omega (arith, u .here) in
-        let d : i / 2 ^ t ≡ u .block * 2 = ap (λ (z : ℕ). z / 2 ^ t) e ∙ high (u .block * 2) t {lo = j} (omega arith) in
-        omega arith
+    low-bit = low starts qubit l
 
     high-bit : (i : ℕ) → base + 2 ^ t ≤ i → i < base + 2 ^ t + 2 ^ t → bit t i ≡ 1
-    high-bit i x y =
-        let j : ℕ = i - base - 2 ^ t in
-        let m : u .block * 2 ^ suc t ≡ u .block * 2 * 2 ^ t = ap (λ (z : ℕ). u .block * z) (pow-suc 2 t ∙ mul-comm (2 ^ t) 2) ∙ sym (mul-assoc (u .block) 2 (2 ^ t)) in
-        let o : (u .block * 2 + 1) * 2 ^ t ≡ u .block * 2 * 2 ^ t + 1 * 2 ^ t = add-mul (u .block * 2) 1 (2 ^ t) in
-        let e : i ≡ (u .block * 2 + 1) * 2 ^ t + j = omega (arith, u .here) in
-        let d : i / 2 ^ t ≡ u .block * 2 + 1 = ap (λ (z : ℕ). z / 2 ^ t) e ∙ high (u .block * 2 + 1) t {lo = j} (omega arith) in
-        omega arith
+    high-bit = upper starts qubit l
 
     -- the upper half was lent and came back turned
     pub blocks-step : (reals : length (b .reals) ≡ 2 ^ n) (imags : length (b .imags) ≡ 2 ^ n) (p : Buffers)

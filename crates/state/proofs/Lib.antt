@@ -15,6 +15,7 @@ pub mod Cuts
 pub mod Lending
 pub mod Turns
 pub mod Whole
+pub mod Blocks
 pub mod Halves
 pub mod Free
 pub mod Calls

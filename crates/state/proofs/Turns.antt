@@ -1,19 +1,19 @@
 -- The keys gone over run by run, for any rule: u is the start of a run, and one lent part of both buffers has its pairs. Assumes nothing.
-use Prim.Native.Nat.{ℕ, zero, suc, _+_, _-_, _*_, _/_, _%_, _^_, _≤_, _<_}
+use Prim.Native.Nat.{ℕ, suc, _+_, _-_, _*_, _/_, _%_, _^_, _≤_, _<_}
 use mathlib.Core.Logic.{_⊎_, inl, inr, ⊎-elim}
 use mathlib.Core.Path.{_≡_, refl, sym, ap, ap₂, _∙_, subst}
 use native.Mathlib.Decide.{decLt}
-use native.Mathlib.Nat.{mul-assoc, mul-comm, add-mul, one-mul, pow-suc, le-div-iff-mul-le, mod-lt, lt-of-mul-lt-mul-right, mul-le-mul-right, div-add-mod', mul-mod-left, zero-mod}
+use native.Mathlib.Nat.{add-mul, one-mul, pow-suc, le-div-iff-mul-le, mod-lt, lt-of-mul-lt-mul-right, mul-le-mul-right, div-add-mod', mul-mod-left, zero-mod}
 use native.Mathlib.Omega.{arith}
 use borrow.Author.Needs.{zero≤}
-use lib.Bits.{bitAnd, bitOr, and-self, and-le-l, and-le-r, or-zero-r, and-mask, and-block, or-block}
+use lib.Bits.{bitAnd, bitOr, and-self, and-le-r, or-zero-r, and-mask, and-block, or-block}
 use lib.ListN.{length}
 use lib.Pow as Pow
 use lib.Pow.{pow-pos, pow-mono, split, high}
 use Rattle.book.specs.Answers.{Buffers}
-use Rattle.book.specs.State.{State, at, pair}
+use Rattle.book.specs.State.{at, pair}
 use Rattle.book.specs.declared.Pair.{Pair}
-use Rattle.state.specs.Pairs.{SameSize, Paired, Has, Keyed, Swept}
+use Rattle.state.specs.Pairs.{SameSize, Paired, Has, Swept}
 use Rattle.state.specs.Runs.{Spaced, lastOf, Run, Ran, Cut, Runs}
 use Rattle.state.proofs.Bits.{or-ge, or-covers, next-least}
 use Rattle.state.proofs.Cuts.{pow-split}

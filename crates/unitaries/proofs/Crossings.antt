@@ -1,16 +1,13 @@
 -- The entry of a matrix made from four amplitudes, as the code works it out: the target's bit of row and column, and the rest of both. Assumes nothing.
-use Prim.Native.Nat.{ℕ, _+_, _-_, _*_, _/_, _%_, _^_, _≤_, _<_}
-use mathlib.Core.Bool.{false}
-use mathlib.Core.Path.{_≡_, refl, sym, ap, _∙_}
+use Prim.Native.Nat.{ℕ, _+_, _*_, _/_, _^_, _≤_}
+use mathlib.Core.Path.{_≡_}
 use native.Mathlib.Nat.{le-trans, mul-le-mul-right, mod-le, div-mul-le-self, mul-le-mul, le-of-lt}
-use native.Mathlib.Omega.{arith}
 use borrow.Author.Tests.{eq-eqb, ne-eqb}
 use lib.Pow.{pow-mono}
 use Rattle.book.proofs.Bits.{bit-lt}
 use Rattle.book.specs.Gates.{nought, entry}
 use Rattle.book.specs.Matrices.{crossing, pairOf}
 use Rattle.book.specs.State.{amplitude, bit}
-use Rattle.book.specs.declared.Amplitude.{Amplitude}
 use Rattle.book.specs.declared.Matrix.{Matrix}
 
 pub bit-part-le : (t i : ℕ) → bit t i * 2 ^ t ≤ i

@@ -13,7 +13,7 @@ use Rattle.book.specs.Answers.{Buffers}
 use Rattle.book.specs.Matrices.{conjugate}
 use Rattle.book.specs.State.{at, held}
 use Rattle.book.specs.declared.Amplitude.{Amplitude}
-use Rattle.unitaries.specs.Filled.{SameSize, Filled}
+use Rattle.unitaries.specs.Filled.{Filled}
 use Rattle.unitaries.specs.Mirrored.{mirror, Crossed, TurnedAt, Turned}
 use Rattle.unitaries.proofs.Fills.{same-size}
 

@@ -3,7 +3,7 @@ use crate::places::write_at;
 use book::Amplitude;
 use book::Matrix;
 ghost use mathlib.Core.Path.{_≡_};
-ghost use Prim.Native.Nat.{ℕ, _+_, _*_, _/_, _%_, _^_, _≤_, _<_};
+ghost use Prim.Native.Nat.{_+_, _*_, _/_, _%_, _≤_, _<_};
 ghost use Rattle.book.specs.Answers.{buffers};
 ghost use Rattle.book.specs.Matrices.{crossing, pairOf};
 ghost use Rattle.unitaries.specs.Filled.{Holds, Filled};

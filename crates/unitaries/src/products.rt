@@ -4,11 +4,11 @@ use crate::places::read_at;
 use crate::places::write_at;
 use book::Amplitude;
 ghost use mathlib.Core.Path.{_≡_};
-ghost use Prim.Native.Nat.{ℕ, _+_, _*_, _≤_, _<_};
+ghost use Prim.Native.Nat.{_+_, _*_, _≤_, _<_};
 ghost use Rattle.book.specs.Answers.{buffers};
 ghost use Rattle.book.specs.Gates.{nought};
-ghost use Rattle.book.specs.Matrices.{addProduct, dot};
-ghost use Rattle.book.specs.State.{amplitude, at};
+ghost use Rattle.book.specs.Matrices.{addProduct};
+ghost use Rattle.book.specs.State.{amplitude};
 ghost use Rattle.unitaries.specs.Filled.{Holds, Filled, Small, rowSum, rowDot, product, stateDot};
 
 // Product a·b added to a sum.

@@ -4,7 +4,7 @@ use crate::places::read_at;
 use crate::places::write_at;
 use book::Amplitude;
 ghost use mathlib.Core.Path.{_≡_};
-ghost use Prim.Native.Nat.{ℕ, _+_, _*_, _/_, _%_, _≤_, _<_};
+ghost use Prim.Native.Nat.{_+_, _*_, _/_, _%_, _≤_, _<_};
 ghost use Rattle.book.specs.Answers.{buffers};
 ghost use Rattle.book.specs.Matrices.{conjugate};
 ghost use Rattle.unitaries.specs.Filled.{Holds};

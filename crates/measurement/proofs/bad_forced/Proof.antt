@@ -1,6 +1,5 @@
 -- `measurement::bad_forced` meets its contract, test by test. Assumes nothing.
 use borrow.Author.Tests.{le-leb, lt-leb}
-use borrow.Author.Needs.{needs}
 use Rattle.measurement.proofs.bad_forced.Statement.{statement}
 use Rattle.measurement.proofs.bad_forced.Tie as tie
 

@@ -1,13 +1,11 @@
 -- `measurement::collapse::collapse` meets its contract: both halves of one block more in each turn. Assumes nothing.
-use Prim.Native.Nat.{_-_, _≤_, _^_}
-use mathlib.Core.Path.{_≡_}
+use Prim.Native.Nat.{_-_, _^_}
 use native.Mathlib.Omega.{arith}
-use borrow.Author.Needs.{needs}
 use Rattle.book.specs.Answers.{buffers}
 use Rattle.state.proofs.Shifts.{shl-is}
-use Rattle.measurement.proofs.Blocks.{place-fits, nearer}
+use Rattle.state.proofs.Blocks.{place-fits, nearer}
 use Rattle.measurement.proofs.Turns.{Collapsing, collapse-starts, block-room, lower-half, upper-half, block-done, collapse-ends}
-use Rattle.measurement.proofs.Blocks.{small}
+use Rattle.measurement.proofs.Sums.{small}
 use Rattle.measurement.proofs.collapse.collapse.Statement.{statement}
 use Rattle.measurement.proofs.collapse.collapse.Tie as tie
 

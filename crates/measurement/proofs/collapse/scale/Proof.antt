@@ -4,7 +4,7 @@ use mathlib.Core.Path.{refl}
 use native.Mathlib.Omega.{arith}
 use borrow.Author.Needs.{needs}
 use Rattle.book.specs.Answers.{buffers}
-use Rattle.measurement.specs.Steps.{kept, cleared, Turns}
+use Rattle.measurement.specs.Steps.{kept, Turns}
 use Rattle.measurement.proofs.Turns.{none, one-more, done}
 use Rattle.measurement.proofs.collapse.scale.Statement.{statement}
 use Rattle.measurement.proofs.collapse.scale.Tie as tie

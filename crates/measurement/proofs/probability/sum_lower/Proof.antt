@@ -1,13 +1,11 @@
 -- `measurement::probability::sum_lower` meets its contract: one block more in each turn. Assumes nothing.
-use Prim.Native.Nat.{_-_, _≤_, _^_}
-use mathlib.Core.Path.{_≡_}
+use Prim.Native.Nat.{_-_, _^_}
 use native.Mathlib.Omega.{arith}
-use borrow.Author.Needs.{needs}
 use Rattle.book.specs.Answers.{buffers}
 use Rattle.state.proofs.Shifts.{shl-is}
-use Rattle.measurement.proofs.Blocks.{place-fits, nearer}
+use Rattle.state.proofs.Blocks.{place-fits, nearer}
 use Rattle.measurement.proofs.Sums.{Summing, sums-start, block-room, block-lower, block-done, sums-end}
-use Rattle.measurement.proofs.Blocks.{small}
+use Rattle.measurement.proofs.Sums.{small}
 use Rattle.measurement.proofs.probability.sum_lower.Statement.{statement}
 use Rattle.measurement.proofs.probability.sum_lower.Tie as tie
 

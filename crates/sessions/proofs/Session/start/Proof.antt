@@ -1,5 +1,4 @@
 -- `sessions::Session::start` meets its contract, test by test. Assumes nothing.
-use borrow.Author.Needs.{needs}
 use Rattle.book.proofs.Refusals.{too-small, too-large, right-size}
 use Rattle.book.specs.Kernels.{mostQubits}
 use Rattle.sessions.proofs.Session.start.Statement.{statement}

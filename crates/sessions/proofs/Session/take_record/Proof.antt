@@ -1,5 +1,4 @@
 -- `sessions::Session::take_record` meets its contract: tests 9, 11, AGAIN and 10 in order, and then the gate. Assumes nothing.
-use native.Mathlib.Omega.{arith}
 use borrow.Author.Needs.{needs}
 use Rattle.sessions.proofs.Steps.{other, full, repeated, early, next}
 use Rattle.sessions.proofs.Session.take_record.Statement.{statement}

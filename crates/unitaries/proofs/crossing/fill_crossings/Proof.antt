@@ -1,5 +1,5 @@
 -- `unitaries::crossing::fill_crossings` meets its contract: one place more in each turn. Assumes nothing.
-use Prim.Native.Nat.{_-_, _*_, _/_, _%_, _≤_}
+use Prim.Native.Nat.{_-_, _/_, _%_, _≤_}
 use native.Mathlib.Omega.{arith}
 use borrow.Author.Needs.{needs}
 use Rattle.book.specs.Answers.{buffers}

@@ -1,17 +1,14 @@
 -- `unitaries::products::clear_row` meets its contract: one place more is filled in each turn. Assumes nothing.
-use Prim.Native.Nat.{ℕ, _+_, _-_, _*_, _≤_}
-use mathlib.Core.Logic.{inr}
-use mathlib.Core.Path.{_≡_, refl, sym, ap, ap₂, _∙_}
+use Prim.Native.Nat.{_-_, _≤_}
+use mathlib.Core.Path.{refl}
 use borrow.Author.Needs.{needs}
 use native.Mathlib.Omega.{arith}
 use Rattle.book.specs.Answers.{buffers}
 use Rattle.book.specs.Gates.{nought}
-use Rattle.book.specs.Matrices.{addProduct}
 use Rattle.book.specs.State.{amplitude}
-use Rattle.book.specs.declared.Amplitude.{Amplitude}
-use Rattle.unitaries.specs.Filled.{Filled, rowSum, rowDot, product, stateDot}
-use Rattle.unitaries.proofs.Dots.{zero-is, row-end}
-use Rattle.unitaries.proofs.Fills.{nothing, join, one-more, again, told, stands, done, holds}
+use Rattle.unitaries.specs.Filled.{Filled}
+use Rattle.unitaries.proofs.Dots.{zero-is}
+use Rattle.unitaries.proofs.Fills.{nothing, one-more, done}
 use Rattle.unitaries.proofs.products.clear_row.Statement.{statement}
 use Rattle.unitaries.proofs.products.clear_row.Tie as tie
 

@@ -1,18 +1,11 @@
 -- `unitaries::products::fill_state` meets its contract: one row more in each turn. Assumes nothing.
-use Prim.Native.Nat.{ℕ, _+_, _-_, _*_, _≤_}
-use mathlib.Core.Logic.{inr}
-use mathlib.Core.Path.{_≡_, refl, sym, ap, ap₂, _∙_}
-use native.Mathlib.Nat.{zero-mul}
+use Prim.Native.Nat.{_-_, _*_, _≤_}
 use borrow.Author.Needs.{needs}
 use native.Mathlib.Omega.{arith}
 use Rattle.book.specs.Answers.{buffers}
-use Rattle.book.specs.Gates.{nought}
-use Rattle.book.specs.Matrices.{addProduct}
-use Rattle.book.specs.State.{amplitude}
-use Rattle.book.specs.declared.Amplitude.{Amplitude}
-use Rattle.unitaries.specs.Filled.{Filled, Small, rowSum, rowDot, product, stateDot}
-use Rattle.unitaries.proofs.Dots.{zero-is, row-end, square-le, start-fits, sum-more, row-none, row-more, rows-more, state-none, state-more}
-use Rattle.unitaries.proofs.Fills.{nothing, one-more, fewer, again, done, holds}
+use Rattle.unitaries.specs.Filled.{Filled, stateDot}
+use Rattle.unitaries.proofs.Dots.{row-end, start-fits}
+use Rattle.unitaries.proofs.Fills.{nothing, one-more, fewer, done}
 use Rattle.unitaries.proofs.products.fill_state.Statement.{statement}
 use Rattle.unitaries.proofs.products.fill_state.Tie as tie
 

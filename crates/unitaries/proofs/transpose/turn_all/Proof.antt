@@ -4,7 +4,6 @@ use mathlib.Core.Path.{_≡_}
 use native.Mathlib.Omega.{arith}
 use borrow.Author.Needs.{needs}
 use Rattle.book.specs.Answers.{buffers}
-use Rattle.unitaries.specs.Filled.{Holds}
 use Rattle.unitaries.specs.Mirrored.{Turned}
 use Rattle.unitaries.proofs.Dots.{square-le}
 use Rattle.unitaries.proofs.Fills.{same-holds}

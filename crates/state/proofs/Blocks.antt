@@ -1,14 +1,12 @@
 -- The blocks of 2 * 2^t places, one after the other: the lower half has target bit 0 and the upper half 1. By division: the block's number is the quotient.
 -- Assumes nothing.
-use Prim.Native.Nat.{ℕ, suc, _+_, _-_, _*_, _/_, _%_, _^_, _≤_, _<_}
-use mathlib.Core.Path.{_≡_, refl, sym, ap, _∙_}
+use Prim.Native.Nat.{ℕ, suc, _+_, _-_, _*_, _/_, _^_, _≤_, _<_}
+use mathlib.Core.Path.{_≡_, sym, ap, _∙_}
 use native.Mathlib.Nat.{pow-suc, mul-comm, mul-assoc, one-mul, zero-mul, add-mul, lt-of-mul-lt-mul-right, mul-le-mul-right}
 use native.Mathlib.Omega.{arith}
 use lib.Arith.{digits-div}
 use lib.Pow.{pow-add, pow-mono, pow-pos}
-use Rattle.book.specs.Answers.{Buffers}
 use Rattle.book.specs.State.{bit}
-use Rattle.measurement.specs.Steps.{Sized}
 
 -- where a block starts
 pub record Base (n t base : ℕ) : Type 0 where
@@ -70,6 +68,3 @@ place-fits {n} m l = omega (arith, pow-mono {i = n} {j = 24} m)
 -- a turn of a loop over the blocks brings its end nearer
 pub nearer : (n t base : ℕ) → base < 2 ^ n → 2 ^ n - (base + 2 ^ t + 2 ^ t) < 2 ^ n - base
 nearer n t base l = omega (arith, pow-pos t)
-
-pub small : {n t : ℕ} {b : Buffers} → Sized n t b → t ≤ 24
-small ok = omega (arith, ok .fits, ok .qubit)
