@@ -6,7 +6,8 @@ use mathlib.Core.Path.{_≡_, ap, _∙_}
 use mathlib.Core.List.{List, [], _++_}
 use mathlib.Core.Option.{some}
 use Rattle.book.specs.Gates.{angleOf, anglesOf, noiseOf}
-use Rattle.book.specs.Records.{bytes, floats, field, maskField, angleField, codeOf, targetOf, fieldsOf, readAngle, readAngles, readNoise, plain, angled, eight, second, forced, noisy, readGate, made, readRecord}
+use Rattle.book.specs.Records.{bytes, floats, field, maskField, angleField, codeOf, targetOf, fieldsOf, readAngle, readAngles}
+use Rattle.book.specs.Records.{readNoise, plain, angled, eight, second, forced, noisy, readGate, made, readRecord}
 use Rattle.book.specs.declared.Angle.{Angle}
 use Rattle.book.specs.declared.Angles.{Angles}
 use Rattle.book.specs.declared.Controls.{Controls}

@@ -31,8 +31,9 @@ returns c =
     let x = c .before .before .before .before .before .before .store-start in
     let y = c .before .before .store-floats in
     let xs = a .numbers .now in
+    let start = a .tag ∷ bytes 2 (8 * length xs) in
     rw (length-floats xs)
-    (store-then (a .out .now) (x .last .0) (y .last .0) (a .at) (a .at + 3) (a .tag ∷ bytes 2 (8 * length xs)) (floats xs) (x .ensures) (y .ensures) (omega arith))
+    (store-then (a .out .now) (x .last .0) (y .last .0) (a .at) (a .at + 3) start (floats xs) (x .ensures) (y .ensures) (omega arith))
 
 pub floats-field-spec : {M : Type 1} → statement M
 floats-field-spec =
