@@ -16,7 +16,8 @@ array-borrow-prefix-buffer : tie.Need-array-borrow-prefix-buffer
 array-borrow-prefix-buffer c = search needs
 
 slice-aggregate-tell-buffer : tie.Need-slice-aggregate-tell-buffer
-slice-aggregate-tell-buffer c = sym (length-take-le (c .before .before .before .before .before .args .room) (c .before .before .before .untouched .result) (omega arith))
+slice-aggregate-tell-buffer c =
+    sym (length-take-le (c .before .before .before .before .before .args .room) (c .before .before .before .untouched .result) (omega arith))
 
 tell-buffer-requires : tie.Need-tell-buffer-requires
 tell-buffer-requires c κs = search needs

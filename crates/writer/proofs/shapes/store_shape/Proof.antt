@@ -41,7 +41,9 @@ slice-aggregate-floats-field : tie.Need-slice-aggregate-floats-field
 slice-aggregate-floats-field c = search needs
 
 floats-field-requires : tie.Need-floats-field-requires
-floats-field-requires c κs = (omega arith, omega (arith, fits (c .before .before .before .before .before .before .before .before .before .before) _ (c .before .before .before .before .before .before .before .shape2 .given .1)))
+floats-field-requires c κs =
+    let k = c .before .before .before .before .before .before in
+    (omega arith, omega (arith, fits (k .before .before .before .before) _ (k .before .shape2 .given .1)))
 
 enum-known-shape-3 : tie.Need-enum-known-shape-3
 enum-known-shape-3 c = search needs
@@ -53,7 +55,9 @@ slice-aggregate-floats-field-2 : tie.Need-slice-aggregate-floats-field-2
 slice-aggregate-floats-field-2 c = search needs
 
 floats-field-requires-2 : tie.Need-floats-field-requires-2
-floats-field-requires-2 c κs = (omega arith, omega (arith, fits (c .before .before .before .before .before .before .before .before .before .before) _ (c .before .before .before .before .before .before .before .shape3 .given .1)))
+floats-field-requires-2 c κs =
+    let k = c .before .before .before .before .before .before in
+    (omega arith, omega (arith, fits (k .before .before .before .before) _ (k .before .shape3 .given .1)))
 
 enum-known-shape-4 : tie.Need-enum-known-shape-4
 enum-known-shape-4 c = search needs
@@ -62,7 +66,9 @@ cast-number-field : tie.Need-cast-number-field
 cast-number-field c = search needs
 
 number-field-requires : tie.Need-number-field-requires
-number-field-requires c κs = (omega arith, omega arith, omega (arith, fits (c .before .before .before .before .before) _ (c .before .before .shape4 .given .1)))
+number-field-requires c κs =
+    let k = c .before in
+    (omega arith, omega arith, omega (arith, fits (k .before .before .before .before) _ (k .before .shape4 .given .1)))
 
 enum-known-shape-5 : tie.Need-enum-known-shape-5
 enum-known-shape-5 c = search needs
@@ -80,7 +86,9 @@ add-number-field : tie.Need-add-number-field
 add-number-field c = search needs
 
 number-field-requires-2 : tie.Need-number-field-requires-2
-number-field-requires-2 c κs = (omega arith, omega arith, omega (arith, fits (c .before .before .before .before .before .before .before) _ (c .before .before .before .before .shape5 .given .1)))
+number-field-requires-2 c κs =
+    let k = c .before .before .before in
+    (omega arith, omega arith, omega (arith, fits (k .before .before .before .before) _ (k .before .shape5 .given .1)))
 
 enum-known-shape-6 : tie.Need-enum-known-shape-6
 enum-known-shape-6 c = search needs
@@ -89,7 +97,9 @@ slice-aggregate-floats-field-3 : tie.Need-slice-aggregate-floats-field-3
 slice-aggregate-floats-field-3 c = search needs
 
 floats-field-requires-3 : tie.Need-floats-field-requires-3
-floats-field-requires-3 c κs = (omega arith, omega (arith, fits (c .before .before .before .before .before .before) _ (c .before .before .before .shape6 .given .1)))
+floats-field-requires-3 c κs =
+    let k = c .before .before in
+    (omega arith, omega (arith, fits (k .before .before .before .before) _ (k .before .shape6 .given .1)))
 
 same-length : tie.Need-same-length
 same-length c = search needs
@@ -115,7 +125,8 @@ returns-3 c =
     let p = c .before .before .before .before .before .before .before .before .before .before .shape3 .given in
     let x = c .before .before .before .before .before .before .before .store-mask3 in
     let y = c .before .before .floats-field2 in
-    rw (p .1) (store-then _ (x .last .0) (y .last .0) 20 27 (maskField (p .0 .0)) (field 0x08 (floats (anglesOf (p .0 .1 .0)))) (x .ensures) (y .ensures) (omega arith))
+    let eight = field 0x08 (floats (anglesOf (p .0 .1 .0))) in
+    rw (p .1) (store-then _ (x .last .0) (y .last .0) 20 27 (maskField (p .0 .0)) eight (x .ensures) (y .ensures) (omega arith))
 
 same-length-4 : tie.Need-same-length-4
 same-length-4 c = search needs
@@ -131,7 +142,9 @@ returns-5 c =
     let p = c .before .before .before .before .before .before .before .shape5 .given in
     let f = p .0 .0 in
     let a = c .before .before .before .before .before .before .before .before .before .before .args in
-    rw (p .1) (c .before .before .number-field2 .ensures ∙ ap (λ (l : List ℕ). store (a .out .now) 20 (field 0x09 l)) (two-bytes (f .outcome) (f .reset) (omega arith)))
+    rw (p .1)
+    (c .before .before .number-field2 .ensures
+    ∙ ap (λ (l : List ℕ). store (a .out .now) 20 (field 0x09 l)) (two-bytes (f .outcome) (f .reset) (omega arith)))
 
 same-length-6 : tie.Need-same-length-6
 same-length-6 c = search needs
