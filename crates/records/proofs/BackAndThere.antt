@@ -10,7 +10,7 @@ use lib.Ieee.{Float}
 use lib.ListN.{length, getD}
 use Rattle.book.specs.Gates.{angleOf, anglesOf, noiseOf}
 use Rattle.book.specs.Records.{bytes, number, floats, field, maskField, codeOf, targetOf, fieldsOf, listed, last, readAngle}
-use Rattle.book.specs.Records.{readAngles, readNoise, readForced, plain, readGate, made}
+use Rattle.book.specs.Records.{readAngles, readNoise, readForced, plain, readGate, made, writeRecord}
 use Rattle.book.specs.declared.Controls.{Controls}
 use Rattle.book.specs.declared.Gate.{Gate}
 use Rattle.book.specs.declared.Gate.the-variants.{H, X, Y, Z, P, Rx, Ry, Rz, U, Swap, Measure, BitFlip}
