@@ -1,4 +1,4 @@
--- `writer::stores::floats_field` stores a field of floats: its length is 8 for each. Assumes nothing.
+-- `writer::stores::store_floats_field` stores a field of floats: its length is 8 for each. Assumes nothing.
 use Prim.Native.Nat.{_+_, _*_}
 use native.Mathlib.Omega.{arith}
 use mathlib.Core.List.{_∷_}
@@ -7,8 +7,8 @@ use Rattle.book.specs.Records.{bytes, floats}
 use Rattle.writer.proofs.Stored.{store-then}
 use Rattle.wire.proofs.Floats.{length-floats}
 use borrow.Author.Needs.{needs}
-use Rattle.writer.proofs.stores.floats_field.Statement.{statement}
-use Rattle.writer.proofs.stores.floats_field.Tie as tie
+use Rattle.writer.proofs.stores.store_floats_field.Statement.{statement}
+use Rattle.writer.proofs.stores.store_floats_field.Tie as tie
 
 mul-store-start : tie.Need-mul-store-start
 mul-store-start c = search needs
@@ -35,8 +35,8 @@ returns c =
     rw (length-floats xs)
     (store-then (a .out .now) (x .last .0) (y .last .0) (a .at) (a .at + 3) start (floats xs) (x .ensures) (y .ensures) (omega arith))
 
-pub floats-field-spec : {M : Type 1} → statement M
-floats-field-spec =
+pub store-floats-field-spec : {M : Type 1} → statement M
+store-floats-field-spec =
     tie.close
     (tie.spec
     mul-store-start
