@@ -10,8 +10,7 @@ import os, random, sys
 
 # ---- document 01: fields, codes
 
-NAMES = {1: 'H', 2: 'X', 3: 'Y', 4: 'Z', 5: 'P', 6: 'RX', 7: 'RY', 8: 'RZ', 9: 'U', 10: 'SWAP', 11: 'MEASURE', 12: 'FLIP'}
-# by code: the tags behind 04, each with the formats of its contents; a d is an f64 kept as its bits
+# by code (1 H, 2 X, 3 Y, 4 Z, 5 P, 6 RX, 7 RY, 8 RZ, 9 U, 10 SWAP, 11 measure, 12 bit flip): the tags behind 04, each with the formats of its contents; a d is an f64 kept as its bits
 MASK, SECOND, ANGLE, EIGHT, FORCED, NOISE = (0x05, 'I'), (0x06, 'B'), (0x07, 'dd'), (0x08, 'dddddddd'), (0x09, 'BB'), (0x0A, 'dd')
 BEHIND = {**{c: [MASK] for c in (1, 2, 3, 4)}, **{c: [MASK, ANGLE] for c in (5, 6, 7, 8)}, 9: [MASK, EIGHT], 10: [SECOND], 11: [FORCED], 12: [NOISE]}
 SIZES = {'B': 1, 'H': 2, 'I': 4, 'd': 8}
@@ -79,7 +78,7 @@ def said(data):
         return 'REFUSED 8'
     session, number, code, target, behind = record
     kinds = ''.join(k for _, k in BEHIND[code])
-    words = ['READ', str(session), str(number), NAMES[code], str(target)]
+    words = ['READ', str(session), str(number), str(code), str(target)]
     words += ['%016x' % v if k == 'd' else str(v) for k, v in zip(kinds, behind)]
     out = write(record)
     # the writer in a buffer of ee with a byte more than was read, and in one with a byte less

@@ -11,7 +11,8 @@ use lib.Ieee.{Float}
 use lib.ListN.{length, take, drop, length-drop, drop-of-length-le}
 use lib.Seq.{drop-drop, drop-cons, length-take-le}
 use borrow.Author.Tests.{eqb-true, eqb-false}
-use Rattle.book.specs.Records.{number, starts, listed, last, readAngle, readAngles, readForced, plain, angled, eight, second, forced, noisy, readGate, made, readRecord}
+use Rattle.book.specs.Records.{number, starts, listed, last, readAngle, readAngles, readForced, plain, angled, eight, second}
+use Rattle.book.specs.Records.{forced, noisy, readGate, made, readRecord}
 use Rattle.book.specs.declared.Angle.{Angle}
 use Rattle.book.specs.declared.Angles.{Angles}
 use Rattle.book.specs.declared.Controls.{Controls}
@@ -96,7 +97,8 @@ module _ {A B : Type 0} (of : List ℕ → A) (tag len at : ℕ) (s : List ℕ) 
   unfolding listed
   goes-on go = by (starts tag len (drop at s))
     where
-      by : (t : Bool) → cond t (go (of (contents len at s)) (drop (3 + len) (drop at s))) none ≡ then (cond t (some (of (contents len at s))) none) (λ a. go a (drop (at + (3 + len)) s))
+      by : (t : Bool) → cond t (go (of (contents len at s)) (drop (3 + len) (drop at s))) none
+          ≡ then (cond t (some (of (contents len at s))) none) (λ a. go a (drop (at + (3 + len)) s))
       by true = ap (go (of (contents len at s))) (drop-drop (3 + len) at s)
       by false = refl
 
@@ -107,7 +109,8 @@ module _ {A B : Type 0} (of : List ℕ → A) (tag len at : ℕ) (s : List ℕ) 
   goes-last g = by (starts tag len (drop at s)) refl
     where
       by : (t : Bool) → starts tag len (drop at s) ≡ t
-          → cond t (last (drop (3 + len) (drop at s)) (g (of (contents len at s)))) none ≡ then (cond t (some (of (contents len at s))) none) (λ a. ending s (at + (3 + len)) (g a))
+          → cond t (last (drop (3 + len) (drop at s)) (g (of (contents len at s)))) none
+          ≡ then (cond t (some (of (contents len at s))) none) (λ a. ending s (at + (3 + len)) (g a))
       by true e =
           let room : at + (3 + len) ≤ length s = omega (arith, has-room tag len (drop at s) e, length-drop at s) in
           ap (λ (l : List ℕ). last l (g (of (contents len at s)))) (drop-drop (3 + len) at s) ∙ last-ending s (at + (3 + len)) (g (of (contents len at s))) room
@@ -135,7 +138,8 @@ two-bytes s h g = by (starts 0x09 2 (drop 20 s)) refl
         ≡ cond t (last (drop 5 (drop 20 s)) (g (record { outcome = number (contents 2 20 s) / 256; reset = number (contents 2 20 s) % 256 }))) none
     by true e =
         let size : length (contents 2 20 s) ≡ 2 = length-take-le 2 (drop 3 (drop 20 s)) (rw length-drop (omega (arith, has-room 0x09 2 (drop 20 s) e))) in
-        ap (λ (f : Forced). last (drop 5 (drop 20 s)) (g f)) (forced-is (contents 2 20 s) (bytes-take 2 (drop 3 (drop 20 s)) (bytes-drop 3 (drop 20 s) (bytes-drop 20 s h))) size)
+        let are : Bytes (contents 2 20 s) = bytes-take 2 (drop 3 (drop 20 s)) (bytes-drop 3 (drop 20 s) (bytes-drop 20 s h)) in
+        ap (λ (f : Forced). last (drop 5 (drop 20 s)) (g f)) (forced-is (contents 2 20 s) are size)
     by false e = refl
 
 -- ---- a gate, by code
@@ -160,7 +164,8 @@ module _ (s : List ℕ) where
       ∙ then-pair (holding pair tag 16 (drop at s)) (λ x y. ending s (at + 19) (g x y))
 
   pub angled-by : (g : Controls → Angle → Gate)
-      → angled g (drop 20 s) ≡ onMask (maskField (drop 20 s)) (λ c. onPair (pairField 0x07 (drop 27 s)) (λ x y. ending s 46 (g c (record { cosine = x; sine = y }))))
+      → angled g (drop 20 s)
+      ≡ onMask (maskField (drop 20 s)) (λ c. onPair (pairField 0x07 (drop 27 s)) (λ x y. ending s 46 (g c (record { cosine = x; sine = y }))))
   angled-by g =
       masked-by (λ c rest. listed 0x07 16 rest λ a rest′. last rest′ (g c (readAngle a)))
       ∙ ap (onMask (maskField (drop 20 s))) (λ i c. pair-by 0x07 27 (λ x y. g c (record { cosine = x; sine = y })) i)

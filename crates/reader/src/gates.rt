@@ -1,6 +1,5 @@
 // The fields behind 04, by the gate's code. They start at place 20.
 ghost use mathlib.Core.Path.{_≡_};
-ghost use Prim.Native.Nat.{_<_};
 ghost use lib.ListN.{drop};
 ghost use Rattle.book.specs.Records.{plain, angled, eight, second, forced, noisy, readGate};
 ghost use Rattle.reader.specs.Answers.{madeOf, maskField, plainGate, angledGate};

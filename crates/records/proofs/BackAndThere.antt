@@ -9,7 +9,8 @@ use mathlib.Core.Option.{Option, some, none}
 use lib.Ieee.{Float}
 use lib.ListN.{length, getD}
 use Rattle.book.specs.Gates.{angleOf, anglesOf, noiseOf}
-use Rattle.book.specs.Records.{bytes, number, floats, field, maskField, codeOf, targetOf, fieldsOf, listed, last, readAngle, readAngles, readNoise, readForced, plain, readGate, made}
+use Rattle.book.specs.Records.{bytes, number, floats, field, maskField, codeOf, targetOf, fieldsOf, listed, last, readAngle}
+use Rattle.book.specs.Records.{readAngles, readNoise, readForced, plain, readGate, made, writeRecord}
 use Rattle.book.specs.declared.Controls.{Controls}
 use Rattle.book.specs.declared.Gate.{Gate}
 use Rattle.book.specs.declared.Gate.the-variants.{H, X, Y, Z, P, Rx, Ry, Rz, U, Swap, Measure, BitFlip}
@@ -37,7 +38,8 @@ record Last {A : Type 0} (tag len : ℕ) (bs : List ℕ) (f : List ℕ → A) (a
   size : length contents ≡ len
   within : Bytes contents
 
-last-field : {A : Type 0} (tag len : ℕ) (bs : List ℕ) (f : List ℕ → A) (a : A) → Bytes bs → listed tag len bs (λ c rest. last rest (f c)) ≡ some a → Last tag len bs f a
+last-field : {A : Type 0} (tag len : ℕ) (bs : List ℕ) (f : List ℕ → A) (a : A) → Bytes bs
+    → listed tag len bs (λ c rest. last rest (f c)) ≡ some a → Last tag len bs f a
 last-field tag len bs f a h e =
     let (c, rest, w, q) = listed-is tag len bs (λ c rest. last rest (f c)) a h e in
     let (none-left, g) = last-is rest (f c) a q in
@@ -50,7 +52,8 @@ last-field tag len bs f a h e =
     }
 
 -- the mask, and what stands behind it
-masked-is : {A : Type 0} (bs : List ℕ) (go : Controls → List ℕ → Option A) (a : A) → Bytes bs → listed 0x05 4 bs (λ m rest. go (record { ones = number m }) rest) ≡ some a
+masked-is : {A : Type 0} (bs : List ℕ) (go : Controls → List ℕ → Option A) (a : A) → Bytes bs
+    → listed 0x05 4 bs (λ m rest. go (record { ones = number m }) rest) ≡ some a
     → (c : Controls) × (rest : List ℕ) × (bs ≡ maskField c ++ rest) × Bytes rest × (go c rest ≡ some a)
 masked-is bs go a h e =
     let (m, rest, w, q) = listed-is 0x05 4 bs (λ m rest. go (record { ones = number m }) rest) a h e in (
@@ -84,7 +87,8 @@ module _ (bs : List ℕ) (g : Gate) (h : Bytes bs) where
         let w = last-field tag (8 * k) rest (λ x. f (of x)) g is e in
         (of (w .contents), w .gives, λ ok. ap (field tag) (there (w .contents) (w .within) (w .size) ok) ∙ w .whole)
 
-    masked-there : (f : Controls → A → Gate) → listed 0x05 4 bs (λ m rest. listed tag (8 * k) rest λ x rest′. last rest′ (f (record { ones = number m }) (of x))) ≡ some g
+    masked-there : (f : Controls → A → Gate)
+        → listed 0x05 4 bs (λ m rest. listed tag (8 * k) rest λ x rest′. last rest′ (f (record { ones = number m }) (of x))) ≡ some g
         → (c : Controls) × (a : A) × (f c a ≡ g) × (Each NotNan (all a) → maskField c ++ field tag (floats (all a)) ≡ bs)
     masked-there f e =
         let (c, rest, whole, after, q) = masked-is bs (λ c rest. listed tag (8 * k) rest λ x rest′. last rest′ (f c (of x))) g h e in
@@ -166,7 +170,8 @@ made-is session k (some g) r e =
 made-is session k none r e = absurd (no-answer e)
 
 -- a field of one number, and what stands behind it
-number-is : {A : Type 0} (tag width : ℕ) (bs : List ℕ) (go : ℕ → List ℕ → Option A) (a : A) → Bytes bs → listed tag width bs (λ c rest. go (number c) rest) ≡ some a
+number-is : {A : Type 0} (tag width : ℕ) (bs : List ℕ) (go : ℕ → List ℕ → Option A) (a : A) → Bytes bs
+    → listed tag width bs (λ c rest. go (number c) rest) ≡ some a
     → (n : ℕ) × (rest : List ℕ) × (field tag (bytes width n) ++ rest ≡ bs) × Bytes rest × (go n rest ≡ some a)
 number-is tag width bs go a h e =
     let (c, rest, w, q) = listed-is tag width bs (λ c rest. go (number c) rest) a h e in
@@ -189,6 +194,12 @@ four s k code t r₁ r₂ r₃ r₄ bs w₁ w₂ w₃ w₄ =
     ∙ ap (λ (l : List ℕ). field 0x01 (bytes 4 s) ++ l) w₂
     ∙ w₁
 
+-- the record of what was read
+same-record : (r : Record) (s k code t : ℕ) (rest bs : List ℕ) → r .session ≡ s → r .number ≡ k → Spells code t rest (r .gate)
+    → field 0x01 (bytes 4 s) ++ behind k code t rest ≡ bs → writeRecord r ≡ bs
+same-record r s k code t rest bs is-s is-k g w =
+    (λ i. field 0x01 (bytes 4 (is-s i)) ++ behind (is-k i) (g .code-is i) (g .target-is i) (g .fields-are i)) ∙ w
+
 pub writes-back : WritesBack
 writes-back bs r h e ok =
     let (s, r₁, w₁, h₁, e₁) = number-is 0x01 4 bs after1 r h e in
@@ -196,9 +207,9 @@ writes-back bs r h e ok =
     let (code, r₃, w₃, h₃, e₃) = number-is 0x03 1 r₂ (after3 s k) r h₂ e₂ in
     let (t, r₄, w₄, h₄, e₄) = number-is 0x04 1 r₃ (after4 s k code) r h₃ e₃ in
     let m = made-is s k (readGate code t r₄) r e₄ in
-    let g = gate-there t r₄ (r .gate) h₄ ok code (m .gate) in
-    (λ i. field 0x01 (bytes 4 (m .session-is i)) ++ behind (m .number-is i) (g .code-is i) (g .target-is i) (g .fields-are i))
-    ∙ four s k code t r₁ r₂ r₃ r₄ bs w₁ w₂ w₃ w₄
+    same-record r s k code t r₄ bs (m .session-is) (m .number-is)
+    (gate-there t r₄ (r .gate) h₄ ok code (m .gate))
+    (four s k code t r₁ r₂ r₃ r₄ bs w₁ w₂ w₃ w₄)
 
 pub one-spelling : OneSpelling
 one-spelling bs cs r h i p q ok = sym (writes-back bs r h p ok) ∙ writes-back cs r i q ok

@@ -6,9 +6,9 @@ use lib.ListN.{length}
 use Rattle.book.specs.Records.{writeRecord}
 use Rattle.book.specs.declared.Gate.{Gate}
 use Rattle.book.specs.declared.Gate.the-variants.{H, X, Y, Z, P, Rx, Ry, Rz, U, Swap, Measure, BitFlip}
-use Rattle.records.specs.RoundTrips.{AtMost94, UHas94}
+use Rattle.records.specs.RoundTrips.{most, AtMost94, UHas94}
 
-by-gate : (session number : ℕ) (g : Gate) → length (writeRecord (record { session = session; number = number; gate = g })) ≤ 94
+by-gate : (session number : ℕ) (g : Gate) → length (writeRecord (record { session = session; number = number; gate = g })) ≤ most
 by-gate session number (H t c) = omega arith
 by-gate session number (X t c) = omega arith
 by-gate session number (Y t c) = omega arith

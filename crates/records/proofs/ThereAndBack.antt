@@ -6,7 +6,8 @@ use mathlib.Core.Path.{_≡_, ap, _∙_}
 use mathlib.Core.List.{List, [], _++_}
 use mathlib.Core.Option.{some}
 use Rattle.book.specs.Gates.{angleOf, anglesOf, noiseOf}
-use Rattle.book.specs.Records.{bytes, floats, field, maskField, angleField, codeOf, targetOf, fieldsOf, readAngle, readAngles, readNoise, plain, angled, eight, second, forced, noisy, readGate, made, readRecord}
+use Rattle.book.specs.Records.{bytes, floats, field, maskField, angleField, codeOf, targetOf, fieldsOf, readAngle, readAngles}
+use Rattle.book.specs.Records.{readNoise, plain, angled, eight, second, forced, noisy, readGate, made, readRecord}
 use Rattle.book.specs.declared.Angle.{Angle}
 use Rattle.book.specs.declared.Angles.{Angles}
 use Rattle.book.specs.declared.Controls.{Controls}
@@ -111,7 +112,8 @@ code-lt (BitFlip t n) = omega arith
 -- ---- the first four fields
 
 head-back : (s n code t : ℕ) (rest : List ℕ) → s < 2 ^ 32 → n < 2 ^ 16 → code < 256 → t < 256
-    → readRecord (field 0x01 (bytes 4 s) ++ field 0x02 (bytes 2 n) ++ field 0x03 (bytes 1 code) ++ field 0x04 (bytes 1 t) ++ rest) ≡ made s n (readGate code t rest)
+    → readRecord (field 0x01 (bytes 4 s) ++ field 0x02 (bytes 2 n) ++ field 0x03 (bytes 1 code) ++ field 0x04 (bytes 1 t) ++ rest)
+    ≡ made s n (readGate code t rest)
 head-back s n code t rest hs hn hc ht =
     rw (
       listed-field 0x01 (bytes 4 s) (field 0x02 (bytes 2 n) ++ field 0x03 (bytes 1 code) ++ field 0x04 (bytes 1 t) ++ rest),

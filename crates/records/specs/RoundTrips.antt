@@ -75,13 +75,16 @@ OneSpelling = (bs cs : List ℕ) (r : Record) → Bytes bs → Bytes cs → read
 
 -- ---- sizes
 
+abbrev pub most : ℕ
+most = 94
+
 -- a record has at most 94 bytes
 abbrev pub AtMost94 : Type 0
-AtMost94 = (r : Record) → length (writeRecord r) ≤ 94
+AtMost94 = (r : Record) → length (writeRecord r) ≤ most
 
 -- and a U has 94
 abbrev pub UHas94 : Type 0
-UHas94 = (session number target : ℕ) (c : Controls) (g : Angles) → length (writeRecord (record { session = session; number = number; gate = U target c g })) ≡ 94
+UHas94 = (s k t : ℕ) (c : Controls) (g : Angles) → length (writeRecord (record { session = s; number = k; gate = U t c g })) ≡ most
 
 -- ---- the contracts leave nothing open
 

@@ -1,18 +1,27 @@
 // What was read of a byte string, and what is written back, as one line of text.
 use crate::text::append;
-use crate::text::bits;
+use crate::text::floats;
 use crate::text::hex;
 use crate::text::number;
+ghost use mathlib.Core.Path.{_≡_};
+ghost use lib.ListN.{length};
 use book::Angle;
+use book::Angles;
 use book::Controls;
+use book::Forced;
 use book::Gate;
+use book::Noise;
 use book::Read;
 use book::Record;
 use book::Refusal;
 use book::Written;
 
-// What the writer's buffer holds before: a byte that the writer touches shows.
-const UNTOUCHED: u8 = 0xee;
+// What the writer's buffer holds before: a byte that the writer touches shows. The length is what lending a part of it needs.
+fn untouched() -> [u8; 96]
+    ensures { λ r. ⌜ 96 ≡ length r ⌝ }
+{
+    [0xee; 96]
+}
 
 // Of the refusals only 8 and 12 are the reader's and the writer's.
 fn refused(out: &mut [u8], at: usize, refusal: Refusal) -> usize {
@@ -34,71 +43,63 @@ fn answer(out: &mut [u8], at: usize, written: Written) -> usize {
     }
 }
 
-fn named(out: &mut [u8], at: usize, name: &[u8], target: u8) -> usize {
-    let next = append(out, at, b" ");
-    let behind = append(out, next, name);
-    number(out, behind, target as u64)
+// A gate's code and target.
+fn coded(out: &mut [u8], at: usize, code: u64, target: u8) -> usize {
+    let next = number(out, at, code);
+    number(out, next, target as u64)
 }
 
-fn masked(out: &mut [u8], at: usize, name: &[u8], target: u8, controls: Controls) -> usize {
-    let next = named(out, at, name, target);
+fn masked(out: &mut [u8], at: usize, code: u64, target: u8, controls: Controls) -> usize {
+    let next = coded(out, at, code, target);
     number(out, next, controls.ones as u64)
 }
 
 fn angled(
     out: &mut [u8],
     at: usize,
-    name: &[u8],
+    code: u64,
     target: u8,
     controls: Controls,
     angle: Angle,
 ) -> usize {
-    let next = masked(out, at, name, target, controls);
-    let behind = bits(out, next, angle.cosine);
-    bits(out, behind, angle.sine)
+    let next = masked(out, at, code, target, controls);
+    floats(out, next, &[angle.cosine, angle.sine])
 }
 
-fn eight(out: &mut [u8], at: usize, a: book::Angles) -> usize {
-    let ct = bits(out, at, a.ct);
-    let st = bits(out, ct, a.st);
-    let cl = bits(out, st, a.cl);
-    let sl = bits(out, cl, a.sl);
-    let cpl = bits(out, sl, a.cpl);
-    let spl = bits(out, cpl, a.spl);
-    let cp = bits(out, spl, a.cp);
-    bits(out, cp, a.sp)
+fn eight(out: &mut [u8], at: usize, target: u8, controls: Controls, a: Angles) -> usize {
+    let next = masked(out, at, 9, target, controls);
+    let numbers = [a.ct, a.st, a.cl, a.sl, a.cpl, a.spl, a.cp, a.sp];
+    floats(out, next, &numbers)
 }
 
-fn forced(out: &mut [u8], at: usize, target: u8, f: book::Forced) -> usize {
-    let next = named(out, at, b"MEASURE", target);
+fn forced(out: &mut [u8], at: usize, target: u8, f: Forced) -> usize {
+    let next = coded(out, at, 11, target);
     let behind = number(out, next, f.outcome as u64);
     number(out, behind, f.reset as u64)
 }
 
-fn noise(out: &mut [u8], at: usize, target: u8, n: book::Noise) -> usize {
-    let next = named(out, at, b"FLIP", target);
-    let behind = bits(out, next, n.prob);
-    bits(out, behind, n.draw)
+fn noise(out: &mut [u8], at: usize, target: u8, n: Noise) -> usize {
+    let next = coded(out, at, 12, target);
+    floats(out, next, &[n.prob, n.draw])
+}
+
+fn second(out: &mut [u8], at: usize, target: u8, other: u8) -> usize {
+    let next = coded(out, at, 10, target);
+    number(out, next, other as u64)
 }
 
 fn tell_gate(out: &mut [u8], at: usize, gate: Gate) -> usize {
     match gate {
-        Gate::H(t, c) => masked(out, at, b"H", t, c),
-        Gate::X(t, c) => masked(out, at, b"X", t, c),
-        Gate::Y(t, c) => masked(out, at, b"Y", t, c),
-        Gate::Z(t, c) => masked(out, at, b"Z", t, c),
-        Gate::P(t, c, a) => angled(out, at, b"P", t, c, a),
-        Gate::Rx(t, c, a) => angled(out, at, b"RX", t, c, a),
-        Gate::Ry(t, c, a) => angled(out, at, b"RY", t, c, a),
-        Gate::Rz(t, c, a) => angled(out, at, b"RZ", t, c, a),
-        Gate::U(t, c, a) => {
-            let next = masked(out, at, b"U", t, c);
-            eight(out, next, a)
-        }
-        Gate::Swap(t, u) => {
-            let next = named(out, at, b"SWAP", t);
-            number(out, next, u as u64)
-        }
+        Gate::H(t, c) => masked(out, at, 1, t, c),
+        Gate::X(t, c) => masked(out, at, 2, t, c),
+        Gate::Y(t, c) => masked(out, at, 3, t, c),
+        Gate::Z(t, c) => masked(out, at, 4, t, c),
+        Gate::P(t, c, a) => angled(out, at, 5, t, c, a),
+        Gate::Rx(t, c, a) => angled(out, at, 6, t, c, a),
+        Gate::Ry(t, c, a) => angled(out, at, 7, t, c, a),
+        Gate::Rz(t, c, a) => angled(out, at, 8, t, c, a),
+        Gate::U(t, c, a) => eight(out, at, t, c, a),
+        Gate::Swap(t, u) => second(out, at, t, u),
         Gate::Measure(t, f) => forced(out, at, t, f),
         Gate::BitFlip(t, n) => noise(out, at, t, n),
     }
@@ -114,7 +115,7 @@ fn tell_buffer(out: &mut [u8], at: usize, it: Record, buffer: &mut [u8]) -> usiz
 
 // The same for a buffer of so many bytes, at most 96.
 fn tell_written(out: &mut [u8], at: usize, it: Record, room: usize) -> usize {
-    let mut buffer = [UNTOUCHED; 96];
+    let mut buffer = untouched();
     if 96 < room {
         return at;
     }

@@ -29,11 +29,22 @@ pub fn number(out: &mut [u8], at: usize, n: u64) -> usize {
 }
 
 // A blank and the bits of an f64.
-pub fn bits(out: &mut [u8], at: usize, x: f64) -> usize {
+fn bits(out: &mut [u8], at: usize, x: f64) -> usize {
     let mut digits = [0u8; 16];
     let k = io::hex(wire::bits_of(x), 16, &mut digits);
     let next = add(out, at, b' ');
     append(out, next, &digits[..k])
+}
+
+pub fn floats(out: &mut [u8], at: usize, numbers: &[f64]) -> usize {
+    let mut next = at;
+    let mut i: usize = 0;
+    while i < numbers.len() {
+        let x = numbers[i];
+        next = bits(out, next, x);
+        i += 1;
+    }
+    next
 }
 
 // The lower-case hex digit of a number below 16.

@@ -48,7 +48,8 @@ one-there c i h room ok =
     let small : number part < 2 ^ 64 = subst (λ (k : ℕ). number part < 256 ^ k) size (number-lt part is) in
     ap (bytes 8) (toBits-ofBits binary64 (number part) small ok) ∙ bytes-back 8 part is size
 
-pub floats-there : (k : ℕ) (c : List ℕ) (i : ℕ) → Bytes c → length c ≡ 8 * i + 8 * k → Each NotNan (floatsFrom c i k) → floats (floatsFrom c i k) ≡ drop (8 * i) c
+pub floats-there : (k : ℕ) (c : List ℕ) (i : ℕ) → Bytes c → length c ≡ 8 * i + 8 * k → Each NotNan (floatsFrom c i k)
+    → floats (floatsFrom c i k) ≡ drop (8 * i) c
 floats-there zero c i h e ok = sym (drop-of-length-le c {i = 8 * i} (omega arith))
 floats-there (suc k) c i h e ok =
     let next : 8 * suc i ≡ 8 * i + 8 = omega arith in

@@ -1,6 +1,7 @@
 -- Bytes stored piece after piece: one run after another, and a number from its lowest byte on. Assumes nothing.
 use Prim.Native.Nat.{ℕ, zero, suc, _+_, _-_, _*_, _/_, _%_, _^_, _≤_, _<_}
-use native.Mathlib.Nat.{add-zero, add-suc, suc-add, zero-add, mul-comm, mul-assoc, mul-add-div-right, mul-add-mod-self-right, div-eq-of-lt, mod-eq-of-lt, mod-lt, div-add-mod'}
+use native.Mathlib.Nat.{add-zero, add-suc, suc-add, zero-add, mul-comm, mul-assoc, mul-add-div-right, mul-add-mod-self-right}
+use native.Mathlib.Nat.{div-eq-of-lt, mod-eq-of-lt, mod-lt, div-add-mod'}
 use native.Mathlib.Numerals.{add-one}
 use native.Mathlib.Omega.{arith}
 use mathlib.Core.Path.{_≡_, refl, sym, ap, _∙_}
@@ -20,7 +21,8 @@ sets-append l i (x ∷ xs) ys =
     ap (λ (k : ℕ). sets (sets l i (x ∷ xs)) k ys) (add-suc i (length xs) ∙ sym (suc-add i (length xs)))
     ∙ sets-append _ (suc i) xs ys
 
-pub store-then : (l l₁ l₂ : List ℕ) (at at₂ : ℕ) (xs ys : List ℕ) → l₁ ≡ store l at xs → l₂ ≡ store l₁ at₂ ys → at₂ ≡ at + length xs → l₂ ≡ store l at (xs ++ ys)
+pub store-then : (l l₁ l₂ : List ℕ) (at at₂ : ℕ) (xs ys : List ℕ)
+    → l₁ ≡ store l at xs → l₂ ≡ store l₁ at₂ ys → at₂ ≡ at + length xs → l₂ ≡ store l at (xs ++ ys)
 unfolding store
 store-then l l₁ l₂ at at₂ xs ys p q e =
     q ∙ ap (λ (m : List ℕ). sets m at₂ ys) p ∙ ap (λ (k : ℕ). sets (sets l at xs) k ys) e ∙ sets-append l at xs ys
@@ -72,7 +74,8 @@ bytes-snoc (suc k) q b h l =
     let low-is : low < p = mod-lt q (pow256-pos k) in
     let fits : low * 256 + b < 256 ^ suc k = omega arith in
     let split : high * p + low ≡ q = div-add-mod' q p in
-    let same : q * 256 + b ≡ high * 256 ^ suc k + (low * 256 + b) = regroup high p low q b split ∙ ap (λ (x : ℕ). high * x + (low * 256 + b)) (sym (pow-suc-256 k)) in
+    let same : q * 256 + b ≡ high * 256 ^ suc k + (low * 256 + b) =
+    regroup high p low q b split ∙ ap (λ (x : ℕ). high * x + (low * 256 + b)) (sym (pow-suc-256 k)) in
     let first : (q * 256 + b) / 256 ^ suc k ≡ high = ap (λ (x : ℕ). x / 256 ^ suc k) same ∙ quotient-is high (256 ^ suc k) (low * 256 + b) fits in
     let others : (q * 256 + b) % 256 ^ suc k ≡ low * 256 + b = ap (λ (x : ℕ). x % 256 ^ suc k) same ∙ rest-is high (256 ^ suc k) (low * 256 + b) fits in
     (λ i. first i ∷ bytes (suc k) (others i)) ∙ ap (λ (bs : List ℕ). high ∷ bs) (bytes-snoc k low b low-is l)
@@ -90,7 +93,8 @@ store-low l at k n h =
 
 -- the same at a count that is not 0, and at 0
 module _ (l : List ℕ) (at i n : ℕ) where
-  pub store-step : 0 < i → n < 256 ^ i → (n / 256 < 256 ^ (i - 1)) × (store (set l (at + (i - 1)) (n % 256)) at (bytes (i - 1) (n / 256)) ≡ store l at (bytes i n))
+  pub store-step : 0 < i → n < 256 ^ i
+      → (n / 256 < 256 ^ (i - 1)) × (store (set l (at + (i - 1)) (n % 256)) at (bytes (i - 1) (n / 256)) ≡ store l at (bytes i n))
   store-step h small =
       let e : suc (i - 1) ≡ i = omega arith in
       let fits : n < 256 ^ suc (i - 1) = rw e small in

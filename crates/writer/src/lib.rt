@@ -1,9 +1,8 @@
 // The writer of gate records: it touches only the record's bytes and answers how many they are, or refuses with 12 and touches nothing.
 ghost use mathlib.Core.Path.{_≡_};
-ghost use Prim.Native.Nat.{_+_, _≤_, _<_};
-ghost use mathlib.Core.List.{_++_};
+ghost use Prim.Native.Nat.{_≤_};
 ghost use lib.ListN.{length};
-ghost use Rattle.book.specs.Records.{bytes, field, wroteOf, leftBy};
+ghost use Rattle.book.specs.Records.{wroteOf, leftBy};
 ghost use Rattle.writer.specs.Stores.{store};
 ghost use Rattle.writer.specs.Shapes.{headOf};
 
@@ -13,7 +12,7 @@ mod stores;
 use crate::shapes::parts_of;
 use crate::shapes::size_of;
 use crate::shapes::store_shape;
-use crate::stores::number_field;
+use crate::stores::store_number_field;
 use book::Record;
 use book::Refusal;
 use book::Written;
@@ -23,10 +22,10 @@ fn store_head(out: &mut [u8], session: u32, number: u16, code: u8, target: u8)
     requires { ⌜ 20 ≤ length (now out) ⌝ }
     ensures { λ _. ⌜ now (out .exit) ≡ store (now (out .entry)) 0 (headOf session number code target) ⌝ }
 {
-    number_field(out, 0, 0x01, 4, session as u64);
-    number_field(out, 7, 0x02, 2, number as u64);
-    number_field(out, 12, 0x03, 1, code as u64);
-    number_field(out, 16, 0x04, 1, target as u64);
+    store_number_field(out, 0, 0x01, 4, session as u64);
+    store_number_field(out, 7, 0x02, 2, number as u64);
+    store_number_field(out, 12, 0x03, 1, code as u64);
+    store_number_field(out, 16, 0x04, 1, target as u64);
 }
 
 pub fn write_record(it: Record, out: &mut [u8]) -> Written

@@ -5,8 +5,8 @@ ghost use lib.ListN.{length};
 ghost use Rattle.book.specs.Records.{maskField};
 ghost use Rattle.writer.specs.Stores.{store};
 ghost use Rattle.writer.specs.Shapes.{coded, partsOf, bytesOf};
-use crate::stores::floats_field;
-use crate::stores::number_field;
+use crate::stores::store_floats_field;
+use crate::stores::store_number_field;
 use book::Angle;
 use book::Angles;
 use book::Controls;
@@ -79,7 +79,7 @@ fn store_mask(out: &mut [u8], controls: Controls)
     requires { ⌜ 27 ≤ length (now out) ⌝ }
     ensures { λ _. ⌜ now (out .exit) ≡ store (now (out .entry)) 20 (maskField controls) ⌝ }
 {
-    number_field(out, 20, 0x05, 4, controls.ones as u64);
+    store_number_field(out, 20, 0x05, 4, controls.ones as u64);
 }
 
 // The fields behind 04.
@@ -94,22 +94,22 @@ pub fn store_shape(out: &mut [u8], shape: Shape)
         Shape::Angled(c, a) => {
             store_mask(out, c);
             let numbers = [a.cosine, a.sine];
-            floats_field(out, 27, 0x07, &numbers);
+            store_floats_field(out, 27, 0x07, &numbers);
         }
         Shape::Eight(c, g) => {
             store_mask(out, c);
             let numbers = [g.ct, g.st, g.cl, g.sl, g.cpl, g.spl, g.cp, g.sp];
-            floats_field(out, 27, 0x08, &numbers);
+            store_floats_field(out, 27, 0x08, &numbers);
         }
         Shape::Second(u) => {
-            number_field(out, 20, 0x06, 1, u as u64);
+            store_number_field(out, 20, 0x06, 1, u as u64);
         }
         Shape::Forced(f) => {
-            number_field(out, 20, 0x09, 2, f.outcome as u64 * 256 + f.reset as u64);
+            store_number_field(out, 20, 0x09, 2, f.outcome as u64 * 256 + f.reset as u64);
         }
         Shape::Noise(n) => {
             let numbers = [n.prob, n.draw];
-            floats_field(out, 20, 0x0a, &numbers);
+            store_floats_field(out, 20, 0x0a, &numbers);
         }
     }
 }

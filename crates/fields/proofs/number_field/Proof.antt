@@ -42,17 +42,17 @@ number-at-requires c κs = omega (arith, room c)
 returns-2 : tie.Need-returns-2
 returns-2 c =
     let a = c .before .before .before .before .before .args in
-    let n = c .number-at in (
-      rw (le-leb (a .width) 8 (c .before .before .before .if1 .left), here (a .bytes .now) (a .at) (a .tag) (a .width) (λ x r. some (number x)) (there (c .before)))
-          (ap Number (n .ensures .0)),
-      λ m e. rw (← same-number (n .result) m e) (n .ensures .1),
-    )
+    let n = c .number-at in
+    let narrow = le-leb (a .width) 8 (c .before .before .before .if1 .left) in
+    let is = here (a .bytes .now) (a .at) (a .tag) (a .width) (λ x r. some (number x)) (there (c .before)) in
+    (rw (narrow, is) (ap Number (n .ensures .0)), λ m e. rw (← same-number (n .result) m e) (n .ensures .1))
 
 returns-3 : tie.Need-returns-3
 returns-3 c =
     let a = c .before .before .before .before .args in
-    let no = sym (c .before .starts-at .ensures) ∙ c .if2 .left in
-    (rw (le-leb (a .width) 8 (c .before .before .if1 .left), gone (a .bytes .now) (a .at) (a .tag) (a .width) (λ x r. some (number x)) no), λ m e. no-number m (256 ^ a .width) e)
+    let narrow = le-leb (a .width) 8 (c .before .before .if1 .left) in
+    let no = gone (a .bytes .now) (a .at) (a .tag) (a .width) (λ x r. some (number x)) (sym (c .before .starts-at .ensures) ∙ c .if2 .left) in
+    (rw (narrow, no), λ m e. no-number m (256 ^ a .width) e)
 
 pub number-field-spec : {M : Type 1} → statement M
 number-field-spec =

@@ -20,7 +20,8 @@ no-gate : (session k : ℕ) (o : Option Gate) → madeOf o ≡ NoGate → Unread
 no-gate session k (some g) e = let z : _≡_ {A = ℕ} 0 1 = cc in absurd (omega arith)
 no-gate session k none e = cc
 
-a-gate : (session k : ℕ) (g : Gate) (o : Option Gate) → madeOf o ≡ Made g → Found (record { session = session; number = k; gate = g }) ≡ readOf (made session k o)
+a-gate : (session k : ℕ) (g : Gate) (o : Option Gate) → madeOf o ≡ Made g
+    → Found (record { session = session; number = k; gate = g }) ≡ readOf (made session k o)
 a-gate session k g (some h) e = cc
 a-gate session k g none e = let z : _≡_ {A = ℕ} 0 1 = cc in absurd (omega arith)
 
@@ -105,7 +106,10 @@ returns-4 c =
     )
 
 cast-read-gate : tie.Need-cast-read-gate
-cast-read-gate c = let p = c in record { fits = p .before .before .before .number-field4 .ensures .1 (p .before .target .given .0 .0) (p .before .target .given .1) }
+cast-read-gate c =
+    let p = c in
+    let n = p .before .target .given in
+    record { fits = p .before .before .before .number-field4 .ensures .1 (n .0 .0) (n .1) }
 
 read-gate-requires : tie.Need-read-gate-requires
 read-gate-requires c κs = search needs
@@ -123,6 +127,10 @@ returns-5 c =
     let k2 = k3 .before .before .before .before in
     let k1 = k2 .before .before .before .before in
     let s = k1 .before .before .before .before .before .args .bytes .now in
+    let session = k1 .before .session .given .0 .0 in
+    let k = k2 .before .number .given .0 .0 in
+    let code = k3 .before .code .given .0 .0 in
+    let target = k4 .before .target .given .0 .0 in
     rw (
       record-by s,
       sym (k1 .before .before .before .number-field .ensures .0) ∙ k1 .before .session .given .1,
@@ -130,14 +138,20 @@ returns-5 c =
       sym (k3 .before .before .before .number-field3 .ensures .0) ∙ k3 .before .code .given .1,
       sym (k4 .before .before .before .number-field4 .ensures .0) ∙ k4 .before .target .given .1,
     )
-    (no-gate (k1 .before .session .given .0 .0) (k2 .before .number .given .0 .0) (readGate (k3 .before .code .given .0 .0) (k4 .before .target .given .0 .0) (drop 20 s))
+    (no-gate session k (readGate code target (drop 20 s))
     (sym (c .before .before .read-gate .ensures) ∙ c .enum-told5 .given .1))
 
 cast-t18 : tie.Need-cast-t18
-cast-t18 c = let p = c .before .before .before .before .before .before .before .before .before .before .before .before .before .before .before .before in record { fits = p .before .before .before .number-field .ensures .1 (p .before .session .given .0 .0) (p .before .session .given .1) }
+cast-t18 c =
+    let p = c .before .before .before .before .before .before .before .before .before .before .before .before .before .before .before .before in
+    let n = p .before .session .given in
+    record { fits = p .before .before .before .number-field .ensures .1 (n .0 .0) (n .1) }
 
 cast-t19 : tie.Need-cast-t19
-cast-t19 c = let p = c .before .before .before .before .before .before .before .before .before .before .before .before in record { fits = p .before .before .before .number-field2 .ensures .1 (p .before .number .given .0 .0) (p .before .number .given .1) }
+cast-t19 c =
+    let p = c .before .before .before .before .before .before .before .before .before .before .before .before in
+    let n = p .before .number .given in
+    record { fits = p .before .before .before .number-field2 .ensures .1 (n .0 .0) (n .1) }
 
 returns-6 : tie.Need-returns-6
 returns-6 c =
@@ -146,6 +160,10 @@ returns-6 c =
     let k2 = k3 .before .before .before .before in
     let k1 = k2 .before .before .before .before in
     let s = k1 .before .before .before .before .before .args .bytes .now in
+    let session = k1 .before .session .given .0 .0 in
+    let k = k2 .before .number .given .0 .0 in
+    let code = k3 .before .code .given .0 .0 in
+    let target = k4 .before .target .given .0 .0 in
     rw (
       record-by s,
       sym (k1 .before .before .before .number-field .ensures .0) ∙ k1 .before .session .given .1,
@@ -153,7 +171,7 @@ returns-6 c =
       sym (k3 .before .before .before .number-field3 .ensures .0) ∙ k3 .before .code .given .1,
       sym (k4 .before .before .before .number-field4 .ensures .0) ∙ k4 .before .target .given .1,
     )
-    (a-gate (k1 .before .session .given .0 .0) (k2 .before .number .given .0 .0) _ (readGate (k3 .before .code .given .0 .0) (k4 .before .target .given .0 .0) (drop 20 s))
+    (a-gate session k _ (readGate code target (drop 20 s))
     (sym (c .before .before .before .read-gate .ensures) ∙ c .before .gate .given .1))
 
 pub read-record-spec : {M : Type 1} → statement M

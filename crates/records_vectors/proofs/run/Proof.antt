@@ -7,7 +7,8 @@ use Rattle.records_vectors.proofs.run.Statement.{statement}
 use Rattle.records_vectors.proofs.run.Tie as tie
 
 abbrev Inv-loop : tie.InvT-loop
-Inv-loop chunk₀ line₀ out₀ cursor₀ turns₀ chunk line out cursor turns = (length chunk ≡ length chunk₀) × (length line ≡ length line₀) × (length out ≡ length out₀)
+Inv-loop chunk₀ line₀ out₀ cursor₀ turns₀ chunk line out cursor turns =
+    (length chunk ≡ length chunk₀) × (length line ≡ length line₀) × (length out ≡ length out₀)
 
 abbrev μ-loop : tie.MeasureT-loop
 μ-loop chunk₀ line₀ out₀ cursor₀ turns₀ chunk line out cursor turns = turns

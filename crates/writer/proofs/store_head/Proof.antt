@@ -8,17 +8,17 @@ use borrow.Author.Needs.{needs}
 use Rattle.writer.proofs.store_head.Statement.{statement}
 use Rattle.writer.proofs.store_head.Tie as tie
 
-number-field-requires : tie.Need-number-field-requires
-number-field-requires c κs = search needs
+store-number-field-requires : tie.Need-store-number-field-requires
+store-number-field-requires c κs = search needs
 
-number-field-requires-2 : tie.Need-number-field-requires-2
-number-field-requires-2 c κs = search needs
+store-number-field-requires-2 : tie.Need-store-number-field-requires-2
+store-number-field-requires-2 c κs = search needs
 
-number-field-requires-3 : tie.Need-number-field-requires-3
-number-field-requires-3 c κs = search needs
+store-number-field-requires-3 : tie.Need-store-number-field-requires-3
+store-number-field-requires-3 c κs = search needs
 
-number-field-requires-4 : tie.Need-number-field-requires-4
-number-field-requires-4 c κs = search needs
+store-number-field-requires-4 : tie.Need-store-number-field-requires-4
+store-number-field-requires-4 c κs = search needs
 
 same-length : tie.Need-same-length
 same-length c = search needs
@@ -27,10 +27,10 @@ returns : tie.Need-returns
 returns c =
     let a = c .before .before .before .before .before .before .before .before .before .before .before .before .before .before .before .before .before .args in
     let l0 : List ℕ = a .out .now in
-    let w1 = c .before .before .before .before .before .before .before .before .before .before .before .before .before .before .number-field in
-    let w2 = c .before .before .before .before .before .before .before .before .before .before .number-field2 in
-    let w3 = c .before .before .before .before .before .before .number-field3 in
-    let w4 = c .before .before .number-field4 in
+    let w1 = c .before .before .before .before .before .before .before .before .before .before .before .before .before .before .store-number-field in
+    let w2 = c .before .before .before .before .before .before .before .before .before .before .store-number-field2 in
+    let w3 = c .before .before .before .before .before .before .store-number-field3 in
+    let w4 = c .before .before .store-number-field4 in
     let f1 : List ℕ = field 0x01 (bytes 4 (a .session)) in
     let f2 : List ℕ = field 0x02 (bytes 2 (a .number)) in
     let f3 : List ℕ = field 0x03 (bytes 1 (a .code)) in
@@ -43,9 +43,9 @@ pub store-head-spec : {M : Type 1} → statement M
 store-head-spec =
     tie.close
     (tie.spec
-    number-field-requires
-    number-field-requires-2
-    number-field-requires-3
-    number-field-requires-4
+    store-number-field-requires
+    store-number-field-requires-2
+    store-number-field-requires-3
+    store-number-field-requires-4
     same-length
     returns)

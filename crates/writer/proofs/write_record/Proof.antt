@@ -1,4 +1,5 @@
--- `writer::write_record` meets the book's writing of a record: the record's bytes in front and the rest untouched, or refusal 12 and nothing touched. Assumes nothing.
+-- `writer::write_record` meets the book's writing of a record: the record's bytes in front and the rest untouched, or refusal 12 and nothing
+-- touched. Assumes nothing.
 use Rattle.writer.proofs.Whole.{no-room, wrote}
 use borrow.Author.Needs.{needs}
 use Rattle.writer.proofs.write_record.Statement.{statement}
@@ -33,7 +34,8 @@ returns-2 c =
     let n = c .before .before .before .before .before .before .before .before .before .size-of in
     let x = c .before .before .before .before .before .before .store-head in
     let y = c .before .before .store-shape in
-    wrote (a .it) (a .out .now) (p .result) (p .ensures) (n .result) (n .ensures) (x .last .0) (y .last .0) (c .before .before .before .before .before .before .before .before .if1 .left) (x .ensures) (y .ensures)
+    wrote (a .it) (a .out .now) (p .result) (p .ensures) (n .result) (n .ensures) (x .last .0) (y .last .0)
+    (c .before .before .before .before .before .before .before .before .if1 .left) (x .ensures) (y .ensures)
 
 pub write-record-spec : {M : Type 1} → statement M
 write-record-spec =

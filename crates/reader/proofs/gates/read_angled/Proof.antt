@@ -34,19 +34,21 @@ enum-told-2 c = search needs
 
 returns-2 : tie.Need-returns-2
 returns-2 c =
-    let a = c .before .before .before .before .before .before .before .before .args in
+    let m = c .before .before .before .before in
+    let a = m .before .before .before .before .args in
     rw (
       angled-by (a .bytes .now) (angledGate (a .code) (a .target)),
-      sym (c .before .before .before .before .before .before .mask-field .ensures) ∙ c .before .before .before .before .controls .given .1,
+      sym (m .before .before .mask-field .ensures) ∙ m .controls .given .1,
       sym (c .before .before .pair-field .ensures) ∙ c .enum-told2 .given .1,
     )
 
 returns-3 : tie.Need-returns-3
 returns-3 c =
-    let a = c .before .before .before .before .before .before .before .before .before .before .args in
+    let m = c .before .before .before .before .before .before in
+    let a = m .before .before .before .before .args in
     rw (
       angled-by (a .bytes .now) (angledGate (a .code) (a .target)),
-      sym (c .before .before .before .before .before .before .before .before .mask-field .ensures) ∙ c .before .before .before .before .before .before .controls .given .1,
+      sym (m .before .before .mask-field .ensures) ∙ m .controls .given .1,
       sym (c .before .before .before .before .pair-field .ensures) ∙ c .before .before .cosine .given .1,
       ne-eqb (length (a .bytes .now)) 46 (c .if1 .taken),
     )
@@ -56,10 +58,11 @@ angled-gate-requires c κs = search needs
 
 returns-4 : tie.Need-returns-4
 returns-4 c =
-    let a = c .before .before .before .before .before .before .before .before .before .before .before .args in
+    let m = c .before .before .before .before .before .before .before in
+    let a = m .before .before .before .before .args in
     rw (
       angled-by (a .bytes .now) (angledGate (a .code) (a .target)),
-      sym (c .before .before .before .before .before .before .before .before .before .mask-field .ensures) ∙ c .before .before .before .before .before .before .before .controls .given .1,
+      sym (m .before .before .mask-field .ensures) ∙ m .controls .given .1,
       sym (c .before .before .before .before .before .pair-field .ensures) ∙ c .before .before .before .cosine .given .1,
       eq-eqb (length (a .bytes .now)) 46 (c .before .if1 .left),
     )

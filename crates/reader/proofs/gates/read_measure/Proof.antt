@@ -4,6 +4,7 @@ use lib.ListN.{length}
 use borrow.Author.Tests.{eq-eqb, ne-eqb}
 use Rattle.book.specs.declared.Gate.the-variants.{Measure}
 use native.Mathlib.Omega.{arith}
+use Rattle.wire.specs.Bytes.{Bytes}
 use Rattle.reader.proofs.Answered.{forced-by}
 use borrow.Author.Needs.{needs}
 use Rattle.reader.proofs.gates.read_measure.Statement.{statement}
@@ -21,19 +22,23 @@ enum-told c = search needs
 returns : tie.Need-returns
 returns c =
     let a = c .before .before .before .before .args in
-    rw (forced-by (a .bytes .now) (λ j. omega (arith, c .before .before .before .shared-slice-known .given j)) (Measure (a .target)), sym (c .before .before .number-field .ensures .0) ∙ c .enum-told .given .1)
+    let are : Bytes (a .bytes .now) = λ j. omega (arith, c .before .before .before .shared-slice-known .given j) in
+    rw (forced-by (a .bytes .now) are (Measure (a .target)), sym (c .before .before .number-field .ensures .0) ∙ c .enum-told .given .1)
 
 returns-2 : tie.Need-returns-2
 returns-2 c =
     let a = c .before .before .before .before .before .before .args in
+    let are : Bytes (a .bytes .now) = λ j. omega (arith, c .before .before .before .before .before .shared-slice-known .given j) in
     rw (
-      forced-by (a .bytes .now) (λ j. omega (arith, c .before .before .before .before .before .shared-slice-known .given j)) (Measure (a .target)),
+      forced-by (a .bytes .now) are (Measure (a .target)),
       sym (c .before .before .before .before .number-field .ensures .0) ∙ c .before .before .both .given .1,
       ne-eqb (length (a .bytes .now)) 25 (c .if1 .taken),
     )
 
 cast-t8 : tie.Need-cast-t8
-cast-t8 c = omega (arith, c .before .before .before .before .number-field .ensures .1 (c .before .before .both .given .0 .0) (c .before .before .both .given .1))
+cast-t8 c =
+    let n = c .before .before .both .given in
+    omega (arith, c .before .before .before .before .number-field .ensures .1 (n .0 .0) (n .1))
 
 cast-t10 : tie.Need-cast-t10
 cast-t10 c = search needs
@@ -41,8 +46,9 @@ cast-t10 c = search needs
 returns-3 : tie.Need-returns-3
 returns-3 c =
     let a = c .before .before .before .before .before .before .args in
+    let are : Bytes (a .bytes .now) = λ j. omega (arith, c .before .before .before .before .before .shared-slice-known .given j) in
     rw (
-      forced-by (a .bytes .now) (λ j. omega (arith, c .before .before .before .before .before .shared-slice-known .given j)) (Measure (a .target)),
+      forced-by (a .bytes .now) are (Measure (a .target)),
       sym (c .before .before .before .before .number-field .ensures .0) ∙ c .before .before .both .given .1,
       eq-eqb (length (a .bytes .now)) 25 (c .if1 .left),
     )

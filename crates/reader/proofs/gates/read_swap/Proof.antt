@@ -32,7 +32,9 @@ returns-2 c =
     )
 
 cast-t7 : tie.Need-cast-t7
-cast-t7 c = record { fits = c .before .before .before .before .number-field .ensures .1 (c .before .before .other .given .0 .0) (c .before .before .other .given .1) }
+cast-t7 c =
+    let n = c .before .before .other .given in
+    record { fits = c .before .before .before .before .number-field .ensures .1 (n .0 .0) (n .1) }
 
 returns-3 : tie.Need-returns-3
 returns-3 c =

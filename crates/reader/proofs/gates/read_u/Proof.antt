@@ -33,29 +33,32 @@ enum-told-2 c = search needs
 
 returns-2 : tie.Need-returns-2
 returns-2 c =
-    let a = c .before .before .before .before .before .before .before .before .args in
+    let m = c .before .before .before .before in
+    let a = m .before .before .before .before .args in
     rw (
       eight-by (a .bytes .now) (U (a .target)),
-      sym (c .before .before .before .before .before .before .mask-field .ensures) ∙ c .before .before .before .before .controls .given .1,
+      sym (m .before .before .mask-field .ensures) ∙ m .controls .given .1,
       sym (c .before .before .angles-field .ensures) ∙ c .enum-told2 .given .1,
     )
 
 returns-3 : tie.Need-returns-3
 returns-3 c =
-    let a = c .before .before .before .before .before .before .before .before .before .before .args in
+    let m = c .before .before .before .before .before .before in
+    let a = m .before .before .before .before .args in
     rw (
       eight-by (a .bytes .now) (U (a .target)),
-      sym (c .before .before .before .before .before .before .before .before .mask-field .ensures) ∙ c .before .before .before .before .before .before .controls .given .1,
+      sym (m .before .before .mask-field .ensures) ∙ m .controls .given .1,
       sym (c .before .before .before .before .angles-field .ensures) ∙ c .before .before .angles .given .1,
       ne-eqb (length (a .bytes .now)) 94 (c .if1 .taken),
     )
 
 returns-4 : tie.Need-returns-4
 returns-4 c =
-    let a = c .before .before .before .before .before .before .before .before .before .before .args in
+    let m = c .before .before .before .before .before .before in
+    let a = m .before .before .before .before .args in
     rw (
       eight-by (a .bytes .now) (U (a .target)),
-      sym (c .before .before .before .before .before .before .before .before .mask-field .ensures) ∙ c .before .before .before .before .before .before .controls .given .1,
+      sym (m .before .before .mask-field .ensures) ∙ m .controls .given .1,
       sym (c .before .before .before .before .angles-field .ensures) ∙ c .before .before .angles .given .1,
       eq-eqb (length (a .bytes .now)) 94 (c .if1 .left),
     )

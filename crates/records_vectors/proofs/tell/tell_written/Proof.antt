@@ -6,6 +6,9 @@ use borrow.Author.Needs.{needs}
 use Rattle.records_vectors.proofs.tell.tell_written.Statement.{statement}
 use Rattle.records_vectors.proofs.tell.tell_written.Tie as tie
 
+untouched-requires : tie.Need-untouched-requires
+untouched-requires c κs = search needs
+
 returns : tie.Need-returns
 returns c = search needs
 
@@ -13,7 +16,8 @@ array-borrow-prefix-buffer : tie.Need-array-borrow-prefix-buffer
 array-borrow-prefix-buffer c = search needs
 
 slice-aggregate-tell-buffer : tie.Need-slice-aggregate-tell-buffer
-slice-aggregate-tell-buffer c = sym (length-take-le (c .before .before .before .before .args .room) _ (omega arith))
+slice-aggregate-tell-buffer c =
+    sym (length-take-le (c .before .before .before .before .before .args .room) (c .before .before .before .untouched .result) (omega arith))
 
 tell-buffer-requires : tie.Need-tell-buffer-requires
 tell-buffer-requires c κs = search needs
@@ -28,6 +32,7 @@ pub tell-written-spec : {M : Type 1} → statement M
 tell-written-spec =
     tie.close
     (tie.spec
+    untouched-requires
     returns
     array-borrow-prefix-buffer
     slice-aggregate-tell-buffer

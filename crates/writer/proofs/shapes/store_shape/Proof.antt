@@ -37,11 +37,13 @@ enum-known-shape-2 c = search needs
 store-mask-requires-2 : tie.Need-store-mask-requires-2
 store-mask-requires-2 c κs = omega (arith, fits (c .before .before .before .before .before) _ (c .before .before .shape2 .given .1))
 
-slice-aggregate-floats-field : tie.Need-slice-aggregate-floats-field
-slice-aggregate-floats-field c = search needs
+slice-aggregate-store-floats-field : tie.Need-slice-aggregate-store-floats-field
+slice-aggregate-store-floats-field c = search needs
 
-floats-field-requires : tie.Need-floats-field-requires
-floats-field-requires c κs = (omega arith, omega (arith, fits (c .before .before .before .before .before .before .before .before .before .before) _ (c .before .before .before .before .before .before .before .shape2 .given .1)))
+store-floats-field-requires : tie.Need-store-floats-field-requires
+store-floats-field-requires c κs =
+    let k = c .before .before .before .before .before .before in
+    (omega arith, omega (arith, fits (k .before .before .before .before) _ (k .before .shape2 .given .1)))
 
 enum-known-shape-3 : tie.Need-enum-known-shape-3
 enum-known-shape-3 c = search needs
@@ -49,47 +51,55 @@ enum-known-shape-3 c = search needs
 store-mask-requires-3 : tie.Need-store-mask-requires-3
 store-mask-requires-3 c κs = omega (arith, fits (c .before .before .before .before .before) _ (c .before .before .shape3 .given .1))
 
-slice-aggregate-floats-field-2 : tie.Need-slice-aggregate-floats-field-2
-slice-aggregate-floats-field-2 c = search needs
+slice-aggregate-store-floats-field-2 : tie.Need-slice-aggregate-store-floats-field-2
+slice-aggregate-store-floats-field-2 c = search needs
 
-floats-field-requires-2 : tie.Need-floats-field-requires-2
-floats-field-requires-2 c κs = (omega arith, omega (arith, fits (c .before .before .before .before .before .before .before .before .before .before) _ (c .before .before .before .before .before .before .before .shape3 .given .1)))
+store-floats-field-requires-2 : tie.Need-store-floats-field-requires-2
+store-floats-field-requires-2 c κs =
+    let k = c .before .before .before .before .before .before in
+    (omega arith, omega (arith, fits (k .before .before .before .before) _ (k .before .shape3 .given .1)))
 
 enum-known-shape-4 : tie.Need-enum-known-shape-4
 enum-known-shape-4 c = search needs
 
-cast-number-field : tie.Need-cast-number-field
-cast-number-field c = search needs
+cast-store-number-field : tie.Need-cast-store-number-field
+cast-store-number-field c = search needs
 
-number-field-requires : tie.Need-number-field-requires
-number-field-requires c κs = (omega arith, omega arith, omega (arith, fits (c .before .before .before .before .before) _ (c .before .before .shape4 .given .1)))
+store-number-field-requires : tie.Need-store-number-field-requires
+store-number-field-requires c κs =
+    let k = c .before in
+    (omega arith, omega arith, omega (arith, fits (k .before .before .before .before) _ (k .before .shape4 .given .1)))
 
 enum-known-shape-5 : tie.Need-enum-known-shape-5
 enum-known-shape-5 c = search needs
 
-cast-number-field-2 : tie.Need-cast-number-field-2
-cast-number-field-2 c = search needs
+cast-store-number-field-2 : tie.Need-cast-store-number-field-2
+cast-store-number-field-2 c = search needs
 
-mul-number-field : tie.Need-mul-number-field
-mul-number-field c = search needs
+mul-store-number-field : tie.Need-mul-store-number-field
+mul-store-number-field c = search needs
 
-cast-number-field-3 : tie.Need-cast-number-field-3
-cast-number-field-3 c = search needs
+cast-store-number-field-3 : tie.Need-cast-store-number-field-3
+cast-store-number-field-3 c = search needs
 
-add-number-field : tie.Need-add-number-field
-add-number-field c = search needs
+add-store-number-field : tie.Need-add-store-number-field
+add-store-number-field c = search needs
 
-number-field-requires-2 : tie.Need-number-field-requires-2
-number-field-requires-2 c κs = (omega arith, omega arith, omega (arith, fits (c .before .before .before .before .before .before .before) _ (c .before .before .before .before .shape5 .given .1)))
+store-number-field-requires-2 : tie.Need-store-number-field-requires-2
+store-number-field-requires-2 c κs =
+    let k = c .before .before .before in
+    (omega arith, omega arith, omega (arith, fits (k .before .before .before .before) _ (k .before .shape5 .given .1)))
 
 enum-known-shape-6 : tie.Need-enum-known-shape-6
 enum-known-shape-6 c = search needs
 
-slice-aggregate-floats-field-3 : tie.Need-slice-aggregate-floats-field-3
-slice-aggregate-floats-field-3 c = search needs
+slice-aggregate-store-floats-field-3 : tie.Need-slice-aggregate-store-floats-field-3
+slice-aggregate-store-floats-field-3 c = search needs
 
-floats-field-requires-3 : tie.Need-floats-field-requires-3
-floats-field-requires-3 c κs = (omega arith, omega (arith, fits (c .before .before .before .before .before .before) _ (c .before .before .before .shape6 .given .1)))
+store-floats-field-requires-3 : tie.Need-store-floats-field-requires-3
+store-floats-field-requires-3 c κs =
+    let k = c .before .before in
+    (omega arith, omega (arith, fits (k .before .before .before .before) _ (k .before .shape6 .given .1)))
 
 same-length : tie.Need-same-length
 same-length c = search needs
@@ -104,7 +114,7 @@ returns-2 : tie.Need-returns-2
 returns-2 c =
     let p = c .before .before .before .before .before .before .before .before .before .before .shape2 .given in
     let x = c .before .before .before .before .before .before .before .store-mask2 in
-    let y = c .before .before .floats-field in
+    let y = c .before .before .store-floats-field in
     rw (p .1) (store-then _ (x .last .0) (y .last .0) 20 27 (maskField (p .0 .0)) (angleField (p .0 .1 .0)) (x .ensures) (y .ensures) (omega arith))
 
 same-length-3 : tie.Need-same-length-3
@@ -114,14 +124,15 @@ returns-3 : tie.Need-returns-3
 returns-3 c =
     let p = c .before .before .before .before .before .before .before .before .before .before .shape3 .given in
     let x = c .before .before .before .before .before .before .before .store-mask3 in
-    let y = c .before .before .floats-field2 in
-    rw (p .1) (store-then _ (x .last .0) (y .last .0) 20 27 (maskField (p .0 .0)) (field 0x08 (floats (anglesOf (p .0 .1 .0)))) (x .ensures) (y .ensures) (omega arith))
+    let y = c .before .before .store-floats-field2 in
+    let eight = field 0x08 (floats (anglesOf (p .0 .1 .0))) in
+    rw (p .1) (store-then _ (x .last .0) (y .last .0) 20 27 (maskField (p .0 .0)) eight (x .ensures) (y .ensures) (omega arith))
 
 same-length-4 : tie.Need-same-length-4
 same-length-4 c = search needs
 
 returns-4 : tie.Need-returns-4
-returns-4 c = rw (c .before .before .before .before .before .shape4 .given .1) (c .before .before .number-field .ensures)
+returns-4 c = rw (c .before .before .before .before .before .shape4 .given .1) (c .before .before .store-number-field .ensures)
 
 same-length-5 : tie.Need-same-length-5
 same-length-5 c = search needs
@@ -131,13 +142,15 @@ returns-5 c =
     let p = c .before .before .before .before .before .before .before .shape5 .given in
     let f = p .0 .0 in
     let a = c .before .before .before .before .before .before .before .before .before .before .args in
-    rw (p .1) (c .before .before .number-field2 .ensures ∙ ap (λ (l : List ℕ). store (a .out .now) 20 (field 0x09 l)) (two-bytes (f .outcome) (f .reset) (omega arith)))
+    rw (p .1)
+    (c .before .before .store-number-field2 .ensures
+    ∙ ap (λ (l : List ℕ). store (a .out .now) 20 (field 0x09 l)) (two-bytes (f .outcome) (f .reset) (omega arith)))
 
 same-length-6 : tie.Need-same-length-6
 same-length-6 c = search needs
 
 returns-6 : tie.Need-returns-6
-returns-6 c = rw (c .before .before .before .before .before .before .shape6 .given .1) (c .before .before .floats-field3 .ensures)
+returns-6 c = rw (c .before .before .before .before .before .before .shape6 .given .1) (c .before .before .store-floats-field3 .ensures)
 
 pub store-shape-spec : {M : Type 1} → statement M
 store-shape-spec =
@@ -147,24 +160,24 @@ store-shape-spec =
     store-mask-requires
     enum-known-shape-2
     store-mask-requires-2
-    slice-aggregate-floats-field
-    floats-field-requires
+    slice-aggregate-store-floats-field
+    store-floats-field-requires
     enum-known-shape-3
     store-mask-requires-3
-    slice-aggregate-floats-field-2
-    floats-field-requires-2
+    slice-aggregate-store-floats-field-2
+    store-floats-field-requires-2
     enum-known-shape-4
-    cast-number-field
-    number-field-requires
+    cast-store-number-field
+    store-number-field-requires
     enum-known-shape-5
-    cast-number-field-2
-    mul-number-field
-    cast-number-field-3
-    add-number-field
-    number-field-requires-2
+    cast-store-number-field-2
+    mul-store-number-field
+    cast-store-number-field-3
+    add-store-number-field
+    store-number-field-requires-2
     enum-known-shape-6
-    slice-aggregate-floats-field-3
-    floats-field-requires-3
+    slice-aggregate-store-floats-field-3
+    store-floats-field-requires-3
     same-length
     returns
     same-length-2
