@@ -1,4 +1,4 @@
--- A sum of two signed fractions, and what may be put in the place of one of them. Assumes nothing.
+-- A number of two limbs may be rounded to odd before it is rounded to nearest, and so may a term of a sum, where the answer is rounded further up. Assumes nothing.
 use mathlib.Core.Path.{_≡_, refl, sym, ap, ap₂, _∙_, subst}
 use mathlib.Core.Logic.{_⊎_, inl, inr}
 use Prim.Native.Nat.{ℕ, suc, _+_, _-_, _*_, _^_, _≤_, _<_, compare, Ordering, Ordering·lt, Ordering·eq, Ordering·gt}
@@ -15,7 +15,7 @@ use Rattle.numbers.proofs.Sums.{sum-plus, sum-less, sum-more, sum-none}
 use Rattle.fused.proofs.Alike.{Alike}
 use Rattle.fused.proofs.AlikeLaws.{swap, scaled, more, less, fewer, below, equal, round-alike}
 use Rattle.numbers.proofs.Sizes.{size-exact, size-pos, size-shl}
-use Rattle.fused.proofs.Cutting.{cut-alike, cut-exact}
+use Rattle.fused.proofs.RoundToOdd.{cut-alike, cut-exact}
 
 -- ---- a number cut, and rounded
 pub round-squeeze : (f : Format) (s : Bool) (w n e x : ℕ) → 0 < w → (n ≡ 0) ⊎ (n + e + 2 ≤ x + (size w + e - x - prec f))

@@ -20,7 +20,7 @@ use Rattle.numbers.proofs.Roots.{IsRoot, square-mono, root-unique, root-least, 
 use Rattle.fused.specs.Odd.{toOdd}
 use Rattle.fused.specs.Steps.{below, scale, Rooted, Squared}
 use Rattle.fused.proofs.AlikeLaws.{round-at}
-use Rattle.fused.proofs.Cutting.{is-even, is-odd}
+use Rattle.fused.proofs.RoundToOdd.{is-even, is-odd}
 
 -- ---- the root h of t, with what is left over
 square-suc : (h : ℕ) → suc h * suc h ≡ h * h + (2 * h + 1)
