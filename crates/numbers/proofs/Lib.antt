@@ -2,6 +2,7 @@
 
 -- whole numbers: comparing, counting digits, signs, and rounding among the numbers of so many digits
 pub mod Orders
+pub mod Signs
 pub mod Sizes
 pub mod Integers
 pub mod Grid

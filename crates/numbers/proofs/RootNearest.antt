@@ -21,10 +21,10 @@ use Rattle.numbers.specs.Fused.{root}
 use Rattle.numbers.specs.Nearest.{sign, signed, atLeastZero, Value, Even, Nearest, twice, NearRoot}
 use Rattle.numbers.proofs.BitsOf.{units-odd}
 use Rattle.numbers.proofs.Integers.{product, plus, middle, middle-is, middle-scale}
-use Rattle.numbers.proofs.Roots.{rootOf, root-at}
+use Rattle.numbers.proofs.Roots.{four-square, rootOf, root-at}
 use Rattle.numbers.proofs.Grid.{Short}
 use Rattle.numbers.proofs.Counts.{Counted, counted, finite-of, sign-of, size-of, equal-numbers, last-bit}
-use Rattle.numbers.proofs.RootRounding.{Side, dropped, leading, keptRoot, root-few, root-full, root-side, square-le, square-lt, four-square}
+use Rattle.numbers.proofs.RootRounding.{Side, dropped, leading, keptRoot, root-few, root-full, root-side, square-le, square-lt}
 
 -- ---- the order of ±a and ±b is that of their multiples
 scaled-test : (a b k : ℕ) → 0 < k → ltb (a * k) (b * k) ≡ ltb a b
