@@ -1,5 +1,5 @@
--- A number of two limbs may be rounded to odd before it is rounded to nearest, and so may a term of a sum, where the answer is rounded further up. Assumes
--- nothing.
+-- A number of two limbs may be rounded to odd before it is rounded to nearest, and so may a term of a sum, where the answer is rounded further up.
+-- Assumes nothing.
 use mathlib.Core.Path.{_≡_, sym, ap, ap₂, _∙_, subst}
 use mathlib.Core.Logic.{_⊎_, inl, inr}
 use Prim.Native.Nat.{ℕ, suc, _+_, _-_, _*_, _^_, _≤_, _<_, compare, Ordering, Ordering·lt, Ordering·eq, Ordering·gt}

@@ -20,7 +20,7 @@ use Rattle.numbers.specs.Nearest.{sign, signed, Even, Nearest, distance,
 use Rattle.numbers.proofs.Signs.{either, same-sign}
 use Rattle.numbers.proofs.BitsOf.{units-inf}
 use Rattle.numbers.proofs.Integers.{product, plus, apart, apart-is, apart-scale}
-use Rattle.numbers.proofs.Grid.{Short, dist, full-head, few-head, kept-near, kept-even}
+use Rattle.numbers.proofs.Grid.{Short, zero-short, dist, full-head, few-head, kept-near, kept-even}
 use Rattle.numbers.proofs.Counts.{Counted, counted, finite-of, sign-of, size-of, equal-numbers, last-bit}
 
 -- ---- distances, in counts
@@ -126,11 +126,8 @@ module _ (f : Format) (u : Bool) (n c : ℕ) (C : 0 < c) where
           ∙ ap (λ (y : ℕ). y * c) e
 
   -- zero is a value too, so what is kept is no farther than n
-  zero-short : Short (prec f) 0
-  zero-short = record { head = 0; zeros = 0; is = refl; few = pow-pos (prec f) }
-
   within : dist (n * 2 ^ low f) (grid f n c * c) ≤ n * 2 ^ low f
-  within = le-trans (kept-near (prec f) (n * 2 ^ low f) c p-pos C 0 zero-short) (le-of-eq (nothing (n * 2 ^ low f) (0 * c) (zero-mul c)))
+  within = le-trans (kept-near (prec f) (n * 2 ^ low f) c p-pos C 0 (zero-short (prec f))) (le-of-eq (nothing (n * 2 ^ low f) (0 * c) (zero-mul c)))
     where
       nothing : (a z : ℕ) → z ≡ 0 → dist a z ≡ a
       nothing a z e = omega arith
