@@ -16,7 +16,7 @@ use Rattle.fused.specs.Odd.{toOdd, cutToOdd}
 use Rattle.fused.specs.Steps.{limbs, below, scale}
 use Rattle.fused.proofs.Alike.{Alike}
 use Rattle.fused.proofs.AlikeLaws.{chain, coarser, scaled}
-use Rattle.fused.proofs.Cutting.{odd-alike, cut-alike}
+use Rattle.fused.proofs.RoundToOdd.{odd-alike, cut-alike}
 use Rattle.fused.proofs.AlikeSums.{sum-alike}
 
 -- a result that is large, or a place that lies below the last one that counts

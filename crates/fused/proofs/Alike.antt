@@ -1,5 +1,5 @@
--- Two whole numbers that a rounding cannot tell apart: they have the same whole part in units of c, and neither or both are a multiple of c.
--- So they round alike to every multiple of 2 * c (`closest-alike`). Assumes nothing.
+-- What rounding to odd keeps of a number: its whole part in units of c, and whether it is a multiple of c. Two numbers that agree in both are `Alike`, and
+-- no rounding to a multiple of 2 * c can tell them apart (`closest-alike`). Assumes nothing.
 use mathlib.Core.Path.{_≡_, sym, ap, ap₂, _∙_, subst}
 use Prim.Native.Nat.{ℕ, _+_, _*_, _/_, _%_, _≤_, _<_, compare, Ordering, Ordering·lt, Ordering·eq, Ordering·gt}
 use native.Mathlib.Nat.{mod-lt, div-div-eq-div-mul, mul-comm, mul-right-comm, mul-pos, mul-le-mul-right, suc-mul, zero-lt-suc}

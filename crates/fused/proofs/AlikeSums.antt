@@ -1,5 +1,6 @@
--- A sum of two signed fractions, and what may be put in the place of one of them. Assumes nothing.
-use mathlib.Core.Path.{_≡_, refl, sym, ap, ap₂, _∙_, subst}
+-- A number of two limbs may be rounded to odd before it is rounded to nearest, and so may a term of a sum, where the answer is rounded further up.
+-- Assumes nothing.
+use mathlib.Core.Path.{_≡_, sym, ap, ap₂, _∙_, subst}
 use mathlib.Core.Logic.{_⊎_, inl, inr}
 use Prim.Native.Nat.{ℕ, suc, _+_, _-_, _*_, _^_, _≤_, _<_, compare, Ordering, Ordering·lt, Ordering·eq, Ordering·gt}
 use native.Mathlib.Nat.{le-trans, le-of-eq, le-of-lt, mul-assoc, mul-one, mul-le-mul-right, add-comm, add-zero, le-add-right}
@@ -11,11 +12,12 @@ use lib.Ieee.{Format, prec, low, size, round, sum}
 use lib.Ieee.Digits.{size-lt, size-reaches}
 use Rattle.fused.specs.Odd.{cutToOdd}
 use Rattle.numbers.proofs.Orders.{Cmp, cmp}
+use Rattle.numbers.proofs.Signs.{either}
 use Rattle.numbers.proofs.Sums.{sum-plus, sum-less, sum-more, sum-none}
 use Rattle.fused.proofs.Alike.{Alike}
 use Rattle.fused.proofs.AlikeLaws.{swap, scaled, more, less, fewer, below, equal, round-alike}
 use Rattle.numbers.proofs.Sizes.{size-exact, size-pos, size-shl}
-use Rattle.fused.proofs.Cutting.{cut-alike, cut-exact}
+use Rattle.fused.proofs.RoundToOdd.{cut-alike, cut-exact}
 
 -- ---- a number cut, and rounded
 pub round-squeeze : (f : Format) (s : Bool) (w n e x : ℕ) → 0 < w → (n ≡ 0) ⊎ (n + e + 2 ≤ x + (size w + e - x - prec f))
@@ -47,10 +49,6 @@ size-wide hi lo k h l =
   where
     last : (z y : ℕ) → 0 < z → (z - 1 < z) × (suc (z - 1 + y) ≡ z + y)
     last z y h = omega arith
-
-either : (b : Bool) → (b ≡ true) ⊎ (b ≡ false)
-either true = inl refl
-either false = inr refl
 
 -- ---- a multiple of 2 ^ v and a number, in whose place stands one that is alike, where the result is rounded at a digit above v
 module _ (f : Format) (s : Bool) (x : ℕ) (t : Bool) (n m X v : ℕ) (k : Alike (2 ^ v) n m)

@@ -16,11 +16,12 @@ use lib.Ieee.Nearest.{closest, closest-same}
 use Rattle.numbers.specs.Fused.{wholeRoot}
 use Rattle.numbers.proofs.Orders.{Cmp, cmp, cmp-lt, cmp-eq, cmp-gt, cmp-scale}
 use Rattle.numbers.proofs.Sizes.{size-exact, size-shl, size-shr, pow-lt-back}
-use Rattle.numbers.proofs.Roots.{IsRoot, square-mono, root-unique, root-least, root-most, wholeRoot-root, four-pow, four-pos, rootOf, rootOf-at, rootOf-same}
+use Rattle.numbers.proofs.Roots.{IsRoot, square-mono, root-unique, root-least, root-most, wholeRoot-root, four-pow, four-square, four-pos, rootOf, rootOf-at}
+use Rattle.numbers.proofs.Roots.{rootOf-same}
 use Rattle.fused.specs.Odd.{toOdd}
 use Rattle.fused.specs.Steps.{below, scale, Rooted, Squared}
 use Rattle.fused.proofs.AlikeLaws.{round-at}
-use Rattle.fused.proofs.Cutting.{is-even, is-odd}
+use Rattle.fused.proofs.RoundToOdd.{is-even, is-odd}
 
 -- ---- the root h of t, with what is left over
 square-suc : (h : ℕ) → suc h * suc h ≡ h * h + (2 * h + 1)
@@ -197,17 +198,11 @@ module _ (t s j : ℕ) (lo : 2 ^ (2 * j) ≤ t) (hi : t < 2 ^ (2 * suc j)) (r : 
   pub whole : IsRoot t (r .h)
   whole = of-rest (r .h) (r .rest) t (r .square) (r .little)
 
-  square-of : (i : ℕ) → 2 ^ (2 * i) ≡ 2 ^ i * 2 ^ i
-  square-of i = ap (λ (y : ℕ). 2 ^ y) (dbl i) ∙ pow-add 2 i i
-    where
-      dbl : (i : ℕ) → 2 * i ≡ i + i
-      dbl i = omega arith
-
   pub marked-digits : size s ≡ suc (suc j)
   marked-digits =
       ap size (r .marked)
-      ∙ marked-size (r .h) (r .rest) j (root-least t (r .h) (2 ^ j) whole (le-trans (le-of-eq (sym (square-of j))) lo))
-      (root-most t (r .h) (2 ^ suc j) whole (lt-of-lt-of-le hi (le-of-eq (square-of (suc j)))))
+      ∙ marked-size (r .h) (r .rest) j (root-least t (r .h) (2 ^ j) whole (le-trans (le-of-eq (sym (four-square j) ∙ four-pow j)) lo))
+      (root-most t (r .h) (2 ^ suc j) whole (lt-of-lt-of-le hi (le-of-eq (sym (four-pow (suc j)) ∙ four-square (suc j)))))
 
   pub marked-pos : 0 < s
   marked-pos = some-digits s (suc j) marked-digits
@@ -309,12 +304,6 @@ module _ (f : Format) (c m e n g s : ℕ) (C : 2 * c ≡ prec f + 7) (S : Square
 
       back : (g c : ℕ) → c ≤ g → c + (g - c) ≡ g
       back g c h = omega arith
-
-      four-square : (j : ℕ) → 4 ^ j ≡ 2 ^ j * 2 ^ j
-      four-square j = four-pow j ∙ ap (λ (y : ℕ). 2 ^ y) (dbl j) ∙ pow-add 2 j j
-        where
-          dbl : (j : ℕ) → 2 * j ≡ j + j
-          dbl j = omega arith
 
       short : (f : Format) → prec f ≤ low f + 1
       short f = go (prec f) (emax f) (two f) (reach f)

@@ -30,44 +30,53 @@ struct Tally {
     more: bool,
 }
 
-fn show(name: u8, x: u64, wanted: u64, got: u64) {
-    let mut label = [32u8; 2];
-    label[0] = name;
-    io::write_all(STDOUT_FILENO, &label);
-    io::print_hex(STDOUT_FILENO, x, 16);
-    io::write_all(STDOUT_FILENO, b" wanted ");
-    io::print_hex(STDOUT_FILENO, wanted, 16);
-    io::write_all(STDOUT_FILENO, b" got ");
-    io::print_hex(STDOUT_FILENO, got, 16);
+// A word in hex, behind its label.
+fn show(label: &[u8], word: u64) {
+    io::write_all(STDOUT_FILENO, label);
+    io::print_hex(STDOUT_FILENO, word, 16);
+}
+
+fn show_answers(wanted: u64, got: u64) {
+    show(b" wanted ", wanted);
+    show(b" got ", got);
     io::write_all(STDOUT_FILENO, b"\n");
 }
 
-fn fused_case(x: u64, y: u64, z: u64, wanted: u64, t: Tally) -> Tally {
+fn show_fused(x: u64, y: u64, z: u64, wanted: u64, got: u64) {
+    show(b"F ", x);
+    show(b" ", y);
+    show(b" ", z);
+    show_answers(wanted, got);
+}
+
+fn show_root(x: u64, wanted: u64, got: u64) {
+    show(b"R ", x);
+    show_answers(wanted, got);
+}
+
+fn fused_case(x: u64, y: u64, z: u64, answer: u64, t: Tally) -> Tally {
+    let wanted = bits(number(answer));
     let got = bits(fused::fused(number(x), number(y), number(z)));
     let mut after = t;
     after.fused = text::one_more(t.fused);
     if got != wanted {
         after.fused_differ = text::one_more(t.fused_differ);
         if t.fused_differ < SHOWN {
-            io::write_all(STDOUT_FILENO, b"y ");
-            io::print_hex(STDOUT_FILENO, y, 16);
-            io::write_all(STDOUT_FILENO, b" z ");
-            io::print_hex(STDOUT_FILENO, z, 16);
-            io::write_all(STDOUT_FILENO, b" ");
-            show(b'F', x, wanted, got);
+            show_fused(x, y, z, wanted, got);
         }
     }
     after
 }
 
-fn root_case(x: u64, wanted: u64, t: Tally) -> Tally {
+fn root_case(x: u64, answer: u64, t: Tally) -> Tally {
+    let wanted = bits(number(answer));
     let got = bits(fused::root(number(x)));
     let mut after = t;
     after.roots = text::one_more(t.roots);
     if got != wanted {
         after.roots_differ = text::one_more(t.roots_differ);
         if t.roots_differ < SHOWN {
-            show(b'R', x, wanted, got);
+            show_root(x, wanted, got);
         }
     }
     after

@@ -18,7 +18,7 @@ use lib.Ieee.Positive.{num, den}
 use lib.Ieee.Scale.{finite, overflow}
 use Rattle.numbers.specs.Nearest.{Value, sign}
 use Rattle.numbers.proofs.BitsOf.{toBits-val, bits-of}
-use Rattle.numbers.proofs.Grid.{Short}
+use Rattle.numbers.proofs.Grid.{Short, zero-short}
 
 pub record Counted (f : Format) (v : Float) : Type 0 where
   pub count : ℕ
@@ -49,7 +49,7 @@ counted f (inf s) h = absurd (h .1)
 counted f (fin s zero e) h = record {
   count = 0;
   has = (refl, ap (λ (y : ℕ). y * 2 ^ low f) (zero-mul (up e)) ∙ zero-mul (2 ^ low f) ∙ sym (zero-mul (down e)));
-  short = record { head = 0; zeros = 0; is = refl; few = pow-pos (prec f) };
+  short = zero-short (prec f);
   under = pow-pos (low f + suc (emax f));
 }
 counted f (fin s (suc m) e) h =

@@ -23,6 +23,9 @@ pub record Short (p w : ℕ) : Type 0 where
   pub is : w ≡ head * 2 ^ zeros
   pub few : head < 2 ^ p
 
+pub zero-short : (p : ℕ) → Short p 0
+zero-short p = record { head = 0; zeros = 0; is = refl; few = pow-pos p }
+
 -- of such numbers none lies between j * 2 ^ k and the next multiple of 2 ^ k, where j has all its digits or k is 0
 pub beside : (p w j k : ℕ) → 0 < p → Short p w → (0 < k → 2 ^ (p - 1) ≤ j) → (w ≤ j * 2 ^ k) ⊎ (suc j * 2 ^ k ≤ w)
 beside p w j k P S full = go (ltb (S .zeros) k) (ltb→lt (S .zeros) k) (nltb→le (S .zeros) k)

@@ -1,12 +1,14 @@
 -- Signed numbers by their sign and size: products, sums, how far two lie apart, and the part of a sum that is above zero. Assumes nothing.
 use mathlib.Core.Path.{_≡_, refl, sym, ap, ap₂, _∙_}
 use Prim.Native.Nat.{ℕ, zero, suc, _+_, _-_, _*_, _≤_, _<_}
-use native.Mathlib.Nat.{zero-mul, mul-zero, zero-add, add-zero, suc-add, add-suc, add-mul, mul-comm, mul-sub}
+use native.Mathlib.Nat.{zero-mul, mul-zero, zero-add, add-zero, suc-add, add-suc, add-mul}
 use native.Mathlib.Omega.{arith}
 use mathlib.Core.Bool.{Bool, true, false, not, cond, Bool·beq, true≢false}
 use lib.IntN.{ℤ, pos, negsuc, negℤ, natAbs, _+ℤ_, _-ℤ_, _*ℤ_, +ℤ-idl, +ℤ-idr, +ℤ-comm}
 use lib.Dec.{T, ltb, ltb→lt, nltb→le}
 use lib.Ieee.{unlike}
+use Rattle.numbers.proofs.Signs.{turned}
+use Rattle.numbers.proofs.Sums.{sub-mul}
 use Rattle.numbers.specs.Nearest.{signed, atLeastZero}
 
 pub size-signed : (s : Bool) (n : ℕ) → natAbs (signed s n) ≡ n
@@ -87,16 +89,10 @@ apart-is s a t b = ap (λ (z : ℤ). natAbs (signed s a +ℤ z)) (negated t b) �
     other : (s t : Bool) → Bool·beq s t ≡ false → natAbs (signed s a +ℤ signed t b) ≡ a - b + (b - a)
     other s t e = pick (ltb a b) (ltb→lt a b) (nltb→le a b)
       where
-        swap : (s t : Bool) → Bool·beq s t ≡ false → Bool·beq t s ≡ false
-        swap true true e = e
-        swap true false e = e
-        swap false true e = e
-        swap false false e = e
-
         pick : (x : Bool) → (T x → a < b) → (T (not x) → b ≤ a) → natAbs (signed s a +ℤ signed t b) ≡ a - b + (b - a)
         pick true k l =
             let h : a < b = k tt in
-            ap natAbs (+ℤ-comm (signed s a) (signed t b) ∙ plus-other t s b a (swap s t e) (omega arith)) ∙ size-signed t (b - a) ∙ omega arith
+            ap natAbs (+ℤ-comm (signed s a) (signed t b) ∙ plus-other t s b a (turned s t ∙ e) (omega arith)) ∙ size-signed t (b - a) ∙ omega arith
         pick false k l = let h : b ≤ a = l tt in ap natAbs (plus-other s t a b e h) ∙ size-signed s (a - b) ∙ omega arith
 
     go : (s t : Bool) → natAbs (signed s a +ℤ signed (not t) b) ≡ apart s a t b
@@ -105,14 +101,11 @@ apart-is s a t b = ap (λ (z : ℤ). natAbs (signed s a +ℤ z)) (negated t b) �
     go false true = refl
     go false false = other false true refl
 
-scale-sub : (x y k : ℕ) → (x - y) * k ≡ x * k - y * k
-scale-sub x y k = mul-comm (x - y) k ∙ mul-sub k x y ∙ ap₂ _-_ (mul-comm k x) (mul-comm k y)
-
 pub apart-scale : (s : Bool) (a : ℕ) (t : Bool) (b k : ℕ) → apart s a t b * k ≡ apart s (a * k) t (b * k)
 apart-scale s a t b k = go (Bool·beq s t)
   where
     go : (x : Bool) → cond x (a - b + (b - a)) (a + b) * k ≡ cond x (a * k - b * k + (b * k - a * k)) (a * k + b * k)
-    go true = add-mul (a - b) (b - a) k ∙ ap₂ _+_ (scale-sub a b k) (scale-sub b a k)
+    go true = add-mul (a - b) (b - a) k ∙ ap₂ _+_ (sub-mul a b k) (sub-mul b a k)
     go false = add-mul a b k
 
 -- ---- the part of ±a ± b that is above zero
@@ -141,6 +134,6 @@ middle-is true a true b = ap atLeastZero (plus-same true a b) ∙ none (a + b)
 
 pub middle-scale : (s : Bool) (a : ℕ) (t : Bool) (b k : ℕ) → middle s a t b * k ≡ middle s (a * k) t (b * k)
 middle-scale false a false b k = add-mul a b k
-middle-scale false a true b k = scale-sub a b k
-middle-scale true a false b k = scale-sub b a k
+middle-scale false a true b k = sub-mul a b k
+middle-scale true a false b k = sub-mul b a k
 middle-scale true a true b k = zero-mul k

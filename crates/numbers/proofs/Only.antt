@@ -5,7 +5,7 @@ use mathlib.Core.Logic.{_⊎_, inl, inr}
 use Prim.Native.Nat.{ℕ, suc, _+_, _*_, _%_, _^_, _≤_, _<_, compare, Ordering, Ordering·lt, Ordering·eq, Ordering·gt}
 use native.Mathlib.Nat.{le-refl, le-of-eq, le-of-lt, le-trans, lt-of-le-of-lt, lt-of-lt-of-le, lt-irrefl, eq-or-lt-of-le, eq-zero-or-pos, zero-mul, suc-mul}
 use native.Mathlib.Omega.{arith}
-use mathlib.Core.Bool.{Bool, true, false, Bool·beq}
+use mathlib.Core.Bool.{Bool, false, Bool·beq}
 use lib.IntN.{pos}
 use lib.Dec.{T}
 use lib.Pow.{pow-pos, pow-lt}
@@ -14,6 +14,7 @@ use lib.Ieee.Fits.{odd-fits, two, two-le-pos}
 use lib.Ieee.Exact.{HasValue, odd-sign}
 use lib.Ieee.Positive.{num}
 use Rattle.numbers.specs.Nearest.{sign, Value, Even, Nearest}
+use Rattle.numbers.proofs.Signs.{one-or-other}
 use Rattle.numbers.proofs.Orders.{Cmp, cmp}
 use Rattle.numbers.proofs.Grid.{beside, Canonical, canonical}
 use Rattle.numbers.proofs.Counts.{Counted, counted, same-value, unequal-numbers, last-bit, finite-of, size-nothing}
@@ -99,12 +100,6 @@ module _ (f : Format) (AsNear : Float → Float → Type 0) (z : Bool) (R : Bool
     zero-has : HasValue (fin false 0 (pos 0)) false 0 (2 ^ low f)
     zero-has = (refl, ap (λ (y : ℕ). y * 2 ^ low f) (zero-mul 1) ∙ zero-mul (2 ^ low f) ∙ sym (zero-mul 1))
 
-    signs : (s t : Bool) → (s ≡ t) ⊎ (Bool·beq s t ≡ false)
-    signs true true = inl refl
-    signs true false = inr refl
-    signs false true = inr refl
-    signs false false = inl refl
-
     -- one of two nearest values that differ in sign is zero
     not-both : (r r' : Float) → Nearest f AsNear z r → Nearest f AsNear z r' → (C : Counted f r) (C' : Counted f r') → Bool·beq (sign r) (sign r') ≡ false
         → 0 < C .count → 0 < C' .count → ⊥
@@ -114,7 +109,7 @@ module _ (f : Format) (AsNear : Float → Float → Type 0) (z : Bool) (R : Bool
         (to r' (fin false 0 (pos 0)) (sign r') false (C' .count) 0 (C' .has) zero-has (N' .near (fin false 0 (pos 0)) zero-value))
 
     apart-clash : (r r' : Float) → Nearest f AsNear z r → Nearest f AsNear z r' → (C : Counted f r) (C' : Counted f r') → C .count < C' .count → ⊥
-    apart-clash r r' N N' C C' h = go (signs (sign r) (sign r')) (eq-zero-or-pos (C .count))
+    apart-clash r r' N N' C C' h = go (one-or-other (sign r) (sign r')) (eq-zero-or-pos (C .count))
       where
         go : (sign r ≡ sign r') ⊎ (Bool·beq (sign r) (sign r') ≡ false) → (C .count ≡ 0) ⊎ (0 < C .count) → ⊥
         go (inl e) o = clash r r' N N' C C' h (inl e)
@@ -137,7 +132,7 @@ module _ (f : Format) (AsNear : Float → Float → Type 0) (z : Bool) (R : Bool
             (subst (λ (s : Bool). HasValue r' s (C .count) (2 ^ low f)) (sym alike) (subst (λ (n : ℕ). HasValue r' (sign r') n (2 ^ low f)) (sym h) (C' .has)))
           where
             alike : sign r ≡ sign r'
-            alike = pick (signs (sign r) (sign r')) (eq-zero-or-pos (C .count))
+            alike = pick (one-or-other (sign r) (sign r')) (eq-zero-or-pos (C .count))
               where
                 pick : (sign r ≡ sign r') ⊎ (Bool·beq (sign r) (sign r') ≡ false) → (C .count ≡ 0) ⊎ (0 < C .count) → sign r ≡ sign r'
                 pick (inl e) o = e

@@ -21,10 +21,10 @@ use Rattle.numbers.specs.Fused.{root}
 use Rattle.numbers.specs.Nearest.{sign, signed, atLeastZero, Value, Even, Nearest, twice, NearRoot}
 use Rattle.numbers.proofs.BitsOf.{units-odd}
 use Rattle.numbers.proofs.Integers.{product, plus, middle, middle-is, middle-scale}
-use Rattle.numbers.proofs.Roots.{rootOf, root-at}
-use Rattle.numbers.proofs.Grid.{Short}
+use Rattle.numbers.proofs.Roots.{four-square, rootOf, root-at}
+use Rattle.numbers.proofs.Grid.{Short, zero-short}
 use Rattle.numbers.proofs.Counts.{Counted, counted, finite-of, sign-of, size-of, equal-numbers, last-bit}
-use Rattle.numbers.proofs.RootRounding.{Side, dropped, leading, keptRoot, root-few, root-full, root-side, square-le, square-lt, four-square}
+use Rattle.numbers.proofs.RootRounding.{Side, dropped, leading, keptRoot, root-few, root-full, root-side, square-le, square-lt}
 
 -- ---- the order of ±a and ±b is that of their multiples
 scaled-test : (a b k : ℕ) → 0 < k → ltb (a * k) (b * k) ≡ ltb a b
@@ -147,16 +147,13 @@ module _ (f : Format) (n c : ℕ) (C : 0 < c) (some : 0 < n) (range : n < 2 ^ su
   unfolding W Q
   at x S = root-side (prec f) (n * 4 ^ low f) c p-pos C x S
 
-  zero-short : Short (prec f) 0
-  zero-short = record { head = 0; zeros = 0; is = refl; few = pow-pos (prec f) }
-
   -- the square is at most four times what it should be: zero is not nearer
   within : W * W * c ≤ n * 4 ^ low f * 4
   within = go (eq-zero-or-pos W)
     where
       go : (W ≡ 0) ⊎ (0 < W) → W * W * c ≤ n * 4 ^ low f * 4
       go (inl e) = le-trans (le-of-eq (ap (λ (y : ℕ). y * W * c) e ∙ ap (λ (y : ℕ). y * c) (zero-mul W) ∙ zero-mul c)) zero-le
-      go (inr h) = subst (λ (y : ℕ). y * y * c ≤ n * 4 ^ low f * 4) (add-zero W) (at 0 zero-short .below' h)
+      go (inr h) = subst (λ (y : ℕ). y * y * c ≤ n * 4 ^ low f * 4) (add-zero W) (at 0 (zero-short (prec f)) .below' h)
 
   N-pos : 0 < n * 4 ^ low f * 4
   N-pos = mul-pos (mul-pos some (subst (λ (y : ℕ). 0 < y) (sym (four-square (low f))) (mul-pos (pow-pos (low f)) (pow-pos (low f))))) (zero-lt-suc 3)

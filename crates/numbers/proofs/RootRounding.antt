@@ -13,7 +13,7 @@ use lib.Ieee.Digits.{size-lt, size-reaches}
 use Rattle.numbers.specs.Fused.{wholeRoot}
 use Rattle.numbers.specs.Nearest.{over}
 use Rattle.numbers.proofs.Orders.{Cmp, cmp}
-use Rattle.numbers.proofs.Roots.{IsRoot, root-least, root-most, twice-square, wholeRoot-root, four-pow, four-pos}
+use Rattle.numbers.proofs.Roots.{IsRoot, root-least, root-most, twice-square, wholeRoot-root, four-pow, four-square, four-pos}
 use Rattle.numbers.proofs.Grid.{Short, beside}
 
 -- ---- squares
@@ -29,12 +29,6 @@ square-lt c y z C h = mul-lt-mul-of-pos-right (lt-of-not-le (λ (g : z * z ≤ y
       where
         more : (p y : ℕ) → p < p + y + suc y
         more p y = omega arith
-
-pub four-square : (j : ℕ) → 4 ^ j ≡ 2 ^ j * 2 ^ j
-four-square j = four-pow j ∙ ap (λ (y : ℕ). 2 ^ y) (dbl j) ∙ pow-add 2 j j
-  where
-    dbl : (j : ℕ) → 2 * j ≡ j + j
-    dbl j = omega arith
 
 -- ---- N is four times the square of the exact root, over c: it lies from l to l + g, and x does not lie between these. W, of which Q is the significand,
 -- is on the same side of the middle between W and x as the exact root; and where x is so too, it is W, or Q is even.

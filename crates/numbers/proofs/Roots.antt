@@ -71,6 +71,12 @@ four-pow (suc j) = pow-succ' 4 j ∙ ap (λ (y : ℕ). 4 * y) (four-pow j) ∙ s
     two : (j : ℕ) → 2 + 2 * j ≡ 2 * suc j
     two j = omega arith
 
+pub four-square : (j : ℕ) → 4 ^ j ≡ 2 ^ j * 2 ^ j
+four-square j = four-pow j ∙ ap (λ (y : ℕ). 2 ^ y) (dbl j) ∙ pow-add 2 j j
+  where
+    dbl : (j : ℕ) → 2 * j ≡ j + j
+    dbl j = omega arith
+
 pub four-pos : (j : ℕ) → 0 < 4 ^ j
 four-pos j = subst (λ (y : ℕ). 0 < y) (sym (four-pow j)) (pow-pos (2 * j))
 

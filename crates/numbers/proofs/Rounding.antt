@@ -5,7 +5,7 @@ use Prim.Native.Nat.{ℕ, suc, _+_, _-_, _*_, _/_, _%_, _^_, _≤_, _<_, compare
 use native.Mathlib.Nat.{le-trans, le-of-eq, le-add-right, le-of-suc-le-suc, lt-of-lt-of-le, lt-of-not-le, mul-assoc, mul-comm, mul-one, mul-right-comm}
 use native.Mathlib.Nat.{zero-mul, mul-pos, mul-le-mul-right, mul-lt-mul-of-pos-right, le-of-mul-le-mul-right, add-mul, eq-zero-or-pos, zero-lt-suc}
 use native.Mathlib.Omega.{arith}
-use mathlib.Core.Bool.{Bool, true, false, Bool·beq, cond, true≢false}
+use mathlib.Core.Bool.{Bool, true, false, Bool·beq, cond}
 use lib.IntN.{ℤ, natAbs, _-ℤ_}
 use lib.Dec.{T}
 use lib.Pow.{pow-pos}
@@ -17,9 +17,10 @@ use lib.Ieee.Order.{drop, kept, round-mono}
 use lib.Ieee.Positive.{num, den, den-pos}
 use lib.Ieee.Scale.{grid, overflow}
 use Rattle.numbers.specs.Nearest.{sign, signed, Even, Nearest, distance, Near, limit}
+use Rattle.numbers.proofs.Signs.{either, same-sign}
 use Rattle.numbers.proofs.BitsOf.{units-inf}
 use Rattle.numbers.proofs.Integers.{product, plus, apart, apart-is, apart-scale}
-use Rattle.numbers.proofs.Grid.{Short, dist, full-head, few-head, kept-near, kept-even}
+use Rattle.numbers.proofs.Grid.{Short, zero-short, dist, full-head, few-head, kept-near, kept-even}
 use Rattle.numbers.proofs.Counts.{Counted, counted, finite-of, sign-of, size-of, equal-numbers, last-bit}
 
 -- ---- distances, in counts
@@ -124,19 +125,9 @@ module _ (f : Format) (u : Bool) (n c : ℕ) (C : 0 < c) where
       sums M e = ap (λ (y : ℕ). M * c + y) (sym (mul-assoc 2 (half f) c)) ∙ sym (add-mul M (2 * half f) c)
           ∙ ap (λ (y : ℕ). y * c) e
 
-  opposite : (t : Bool) → (Bool·beq u t ≡ true) ⊎ (Bool·beq u t ≡ false)
-  opposite t = go (Bool·beq u t)
-    where
-      go : (b : Bool) → (b ≡ true) ⊎ (b ≡ false)
-      go true = inl refl
-      go false = inr refl
-
   -- zero is a value too, so what is kept is no farther than n
-  zero-short : Short (prec f) 0
-  zero-short = record { head = 0; zeros = 0; is = refl; few = pow-pos (prec f) }
-
   within : dist (n * 2 ^ low f) (grid f n c * c) ≤ n * 2 ^ low f
-  within = le-trans (kept-near (prec f) (n * 2 ^ low f) c p-pos C 0 zero-short) (le-of-eq (nothing (n * 2 ^ low f) (0 * c) (zero-mul c)))
+  within = le-trans (kept-near (prec f) (n * 2 ^ low f) c p-pos C 0 (zero-short (prec f))) (le-of-eq (nothing (n * 2 ^ low f) (0 * c) (zero-mul c)))
     where
       nothing : (a z : ℕ) → z ≡ 0 → dist a z ≡ a
       nothing a z e = omega arith
@@ -149,7 +140,7 @@ module _ (f : Format) (u : Bool) (n c : ℕ) (C : 0 < c) where
       same false = refl
 
   near-count : (t : Bool) (w : ℕ) → Short (prec f) w → dist (n * 2 ^ low f) (grid f n c * c) ≤ apart u (n * 2 ^ low f) t (w * c)
-  near-count t w S = go (opposite t)
+  near-count t w S = go (either (Bool·beq u t))
     where
       go : (Bool·beq u t ≡ true) ⊎ (Bool·beq u t ≡ false) → dist (n * 2 ^ low f) (grid f n c * c) ≤ apart u (n * 2 ^ low f) t (w * c)
       go (inl e) = le-trans (kept-near (prec f) (n * 2 ^ low f) c p-pos C w S)
@@ -159,14 +150,8 @@ module _ (f : Format) (u : Bool) (n c : ℕ) (C : 0 < c) where
 
   even-count : (t : Bool) (w : ℕ) → Short (prec f) w → apart u (n * 2 ^ low f) t (w * c) ≤ dist (n * 2 ^ low f) (grid f n c * c)
       → ((w ≡ grid f n c) × ((t ≡ u) ⊎ (w ≡ 0))) ⊎ (significand f n c % 2 ≡ 0)
-  even-count t w S h = go (opposite t)
+  even-count t w S h = go (either (Bool·beq u t))
     where
-      same-sign : (u t : Bool) → Bool·beq u t ≡ true → t ≡ u
-      same-sign true true e = refl
-      same-sign true false e = absurd (true≢false (sym e))
-      same-sign false true e = absurd (true≢false (sym e))
-      same-sign false false e = refl
-
       -- a number of the other sign is zero
       vanishes : n * 2 ^ low f + w * c ≤ dist (n * 2 ^ low f) (grid f n c * c) → w ≡ 0
       vanishes g = none (eq-zero-or-pos w)
@@ -190,7 +175,7 @@ module _ (f : Format) (u : Bool) (n c : ℕ) (C : 0 < c) where
         where
           pick : (w ≡ grid f n c) ⊎ (significand f n c % 2 ≡ 0)
               → ((w ≡ grid f n c) × ((t ≡ u) ⊎ (w ≡ 0))) ⊎ (significand f n c % 2 ≡ 0)
-          pick (inl a) = inl (a, inl (same-sign u t e))
+          pick (inl a) = inl (a, inl (sym (same-sign u t e)))
           pick (inr a) = inr a
       go (inr e) =
           let g : n * 2 ^ low f + w * c ≤ dist (n * 2 ^ low f) (grid f n c * c) = le-trans

@@ -10,6 +10,7 @@ use lib.Dec.{ltb}
 use lib.Ieee.{Format, round, sum}
 use lib.Ieee.Scale.{round-same}
 use Rattle.numbers.proofs.Orders.{Cmp, cmp}
+use Rattle.numbers.proofs.Signs.{either, same-sign, turned}
 
 -- ---- `sum`, by its cases
 module _ (f : Format) (s : Bool) (a : ℕ) (t : Bool) (b c : ℕ) where
@@ -46,15 +47,11 @@ module _ (f : Format) (s : Bool) (a : ℕ) (t : Bool) (b c : ℕ) where
       none a b h = omega arith
 
 -- ---- the same fractions, scaled
-sub-mul : (x y g : ℕ) → (x - y) * g ≡ x * g - y * g
+pub sub-mul : (x y g : ℕ) → (x - y) * g ≡ x * g - y * g
 sub-mul x y g = mul-comm (x - y) g ∙ mul-sub g x y ∙ ap₂ _-_ (mul-comm g x) (mul-comm g y)
 
 round-scaled : (f : Format) (s : Bool) (a c g : ℕ) → 0 < c → 0 < g → round f s a c ≡ round f s (a * g) (c * g)
 round-scaled f s a c g C G = round-same f s a c (a * g) (c * g) C (mul-pos C G) (sym (mul-assoc a c g) ∙ mul-right-comm a c g)
-
-either : (b : Bool) → (b ≡ true) ⊎ (b ≡ false)
-either true = inl refl
-either false = inr refl
 
 pub sum-scaled : (f : Format) (s : Bool) (a : ℕ) (t : Bool) (b c g : ℕ) → 0 < c → 0 < g → sum f s a t b c ≡ sum f s (a * g) t (b * g) (c * g)
 sum-scaled f s a t b c g C G = go (either (Bool·beq s t))
@@ -79,25 +76,13 @@ sum-scaled f s a t b c g C G = go (either (Bool·beq s t))
 pub sum-swap : (f : Format) (s : Bool) (a : ℕ) (t : Bool) (b c : ℕ) → sum f s a t b c ≡ sum f t b s a c
 sum-swap f s a t b c = go (either (Bool·beq s t))
   where
-    other : (s t : Bool) → Bool·beq s t ≡ Bool·beq t s
-    other true true = refl
-    other true false = refl
-    other false true = refl
-    other false false = refl
-
-    equal-signs : (s t : Bool) → Bool·beq s t ≡ true → s ≡ t
-    equal-signs true true e = refl
-    equal-signs true false e = sym e
-    equal-signs false true e = e
-    equal-signs false false e = refl
-
     go : (Bool·beq s t ≡ true) ⊎ (Bool·beq s t ≡ false) → sum f s a t b c ≡ sum f t b s a c
-    go (inl e) = sum-plus f s a t b c e ∙ ap₂ (λ (r : Bool) (y : ℕ). round f r y c) (equal-signs s t e) (add-comm a b)
-        ∙ sym (sum-plus f t b s a c (sym (other s t) ∙ e))
+    go (inl e) = sum-plus f s a t b c e ∙ ap₂ (λ (r : Bool) (y : ℕ). round f r y c) (same-sign s t e) (add-comm a b)
+        ∙ sym (sum-plus f t b s a c (turned s t ∙ e))
     go (inr e) = by (compare a b) (cmp a b)
       where
         e' : Bool·beq t s ≡ false
-        e' = sym (other s t) ∙ e
+        e' = turned s t ∙ e
 
         by : (o : Ordering) → Cmp o a b → sum f s a t b c ≡ sum f t b s a c
         by Ordering·lt h = sum-less f s a t b c e h ∙ sym (sum-more f t b s a c e' h)

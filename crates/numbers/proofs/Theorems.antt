@@ -15,6 +15,7 @@ use lib.Ieee.Scale.{finite}
 use Rattle.numbers.specs.Fused.{fused, root}
 use Rattle.numbers.specs.Nearest.{signed, Nearest, Near, NearRoot, exact, divisor, signOf, exactSign, limit, Answers}
 use Rattle.numbers.proofs.Orders.{Cmp, cmp}
+use Rattle.numbers.proofs.Signs.{same-sign, turned}
 use Rattle.numbers.proofs.Sums.{sum-plus, sum-less, sum-more, sum-none}
 use Rattle.numbers.proofs.Integers.{size-signed, product, plus, plus-same, plus-other, apart}
 use Rattle.numbers.proofs.Grid.{dist}
@@ -39,18 +40,6 @@ positive-sign true both (suc n) h = refl
 rounded : (f : Format) (s : Bool) (a : ℕ) (t : Bool) (b c : ℕ) → Rounded f s a t b c
 rounded f s a t b c = go (Bool·beq s t) refl
   where
-    same-sign : (s t : Bool) → Bool·beq s t ≡ true → t ≡ s
-    same-sign true true e = refl
-    same-sign true false e = absurd (true≢false (sym e))
-    same-sign false true e = absurd (true≢false (sym e))
-    same-sign false false e = refl
-
-    swap : (s t : Bool) → Bool·beq s t ≡ false → Bool·beq t s ≡ false
-    swap true true e = e
-    swap true false e = e
-    swap false true e = e
-    swap false false e = e
-
     own : (s : Bool) (n : ℕ) → signOf (signed s n) (s && s) ≡ s
     own true zero = refl
     own true (suc n) = refl
@@ -72,19 +61,19 @@ rounded f s a t b c = go (Bool·beq s t) refl
 
     go : (x : Bool) → Bool·beq s t ≡ x → Rounded f s a t b c
     go true e =
-        let k : signed s a +ℤ signed t b ≡ signed s (a + b) = ap (λ (u : Bool). signed s a +ℤ signed u b) (same-sign s t e) ∙ plus-same s a b in
+        let k : signed s a +ℤ signed t b ≡ signed s (a + b) = ap (λ (u : Bool). signed s a +ℤ signed u b) (sym (same-sign s t e)) ∙ plus-same s a b in
         record {
           neg = s;
           size = a + b;
           is = sum-plus f s a t b c e;
           total = k;
-          signs = ap₂ (λ (z : ℤ) (u : Bool). signOf z (s && u)) k (same-sign s t e) ∙ own s (a + b);
+          signs = ap₂ (λ (z : ℤ) (u : Bool). signOf z (s && u)) k (sym (same-sign s t e)) ∙ own s (a + b);
         }
     go false e = by (compare a b) (cmp a b)
       where
         by : (o : Ordering) → Cmp o a b → Rounded f s a t b c
         by Ordering·lt h =
-            let k : signed s a +ℤ signed t b ≡ signed t (b - a) = +ℤ-comm (signed s a) (signed t b) ∙ plus-other t s b a (swap s t e) (le-of-lt h) in
+            let k : signed s a +ℤ signed t b ≡ signed t (b - a) = +ℤ-comm (signed s a) (signed t b) ∙ plus-other t s b a (turned s t ∙ e) (le-of-lt h) in
             record {
               neg = t;
               size = b - a;

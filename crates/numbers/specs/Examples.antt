@@ -2,8 +2,11 @@
 -- Assumes nothing.
 use mathlib.Core.Path.{_≡_, refl}
 use Prim.Native.Nat.{ℕ}
-use lib.Ieee.{binary64, ofBits, toBits}
+use mathlib.Core.Bool.{true, false}
+use lib.IntN.{pos, negsuc}
+use lib.Ieee.{fin, binary64, ofBits, toBits}
 use Rattle.numbers.specs.Fused.{fused, root}
+use Rattle.numbers.specs.Nearest.{distance, twice, exact, divisor}
 
 -- the bits of F and of the root, from those of the operands
 unfoldable pub fusedBits : ℕ → ℕ → ℕ → ℕ
@@ -31,3 +34,25 @@ up-to-the-smallest = refl
 pub root-of-two : rootBits 0x4000000000000000 ≡ 0x3ff6a09e667f3bcd
 unfolding rootBits root ofBits toBits
 root-of-two = refl
+
+-- ---- the words of `Nearest`, at small numbers
+-- 3/2 lies 1/2 from 1 and 5/2 from -1, counted in halves
+pub distance-to-one : distance (pos 3) 2 (fin false 1 (pos 0)) ≡ 1
+distance-to-one = refl
+
+pub distance-to-minus-one : distance (pos 3) 2 (fin true 1 (pos 0)) ≡ 5
+distance-to-minus-one = refl
+
+-- 1.5 times 2, less 0.5, is 10/4
+pub exact-sum : exact (fin false 3 (negsuc 0)) (fin false 1 (pos 1)) (fin true 1 (negsuc 0)) ≡ pos 10
+exact-sum = refl
+
+pub exact-divisor : divisor (fin false 3 (negsuc 0)) (fin false 1 (pos 1)) (fin true 1 (negsuc 0)) ≡ 4
+exact-divisor = refl
+
+-- twice the middle of 3 and -1 is 2, and that of 1 and -3 is below zero
+pub middle-above : twice (fin false 3 (pos 0)) (fin true 1 (pos 0)) ≡ 2
+middle-above = refl
+
+pub middle-below : twice (fin false 1 (pos 0)) (fin true 3 (pos 0)) ≡ 0
+middle-below = refl

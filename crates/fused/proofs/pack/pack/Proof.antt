@@ -12,7 +12,7 @@ use lib.Ieee.Nearest.{closest, nearest-ge}
 use Rattle.numbers.proofs.Sizes.{size-shl}
 use Rattle.fused.specs.Odd.{cutToOdd}
 use Rattle.fused.specs.Steps.{below, Kept}
-use Rattle.fused.proofs.Cutting.{cut-lt, cut-ge, round-cut}
+use Rattle.fused.proofs.RoundToOdd.{cut-lt, cut-ge, round-cut}
 use Rattle.fused.proofs.pack.pack.Statement.{statement}
 use Rattle.fused.proofs.pack.pack.Tie as tie
 

@@ -10,7 +10,7 @@ use lib.Ieee.{binary64, size}
 use lib.Ieee.Digits.{size-le, size-lt}
 use Rattle.fused.specs.Odd.{cutToOdd}
 use Rattle.fused.specs.Steps.{below}
-use Rattle.fused.proofs.Cutting.{cut-scaled, cut-exact}
+use Rattle.fused.proofs.RoundToOdd.{cut-scaled, cut-exact}
 use Rattle.fused.proofs.pack.quarters.Statement.{statement}
 use Rattle.fused.proofs.pack.quarters.Tie as tie
 

@@ -10,7 +10,7 @@ use lib.Pow.{pow-add, pow-pos, pow-lt, pow-mono, shl-lt}
 use lib.Ieee.{binary64, prec, sum}
 use Rattle.fused.specs.Odd.{toOdd, cutToOdd}
 use Rattle.fused.specs.Steps.{limbs, scale}
-use Rattle.fused.proofs.Cutting.{cut-pos, is-even, is-odd}
+use Rattle.fused.proofs.RoundToOdd.{cut-pos, is-even, is-odd}
 use Rattle.fused.proofs.Aligned.{finer, coarse}
 use Rattle.fused.proofs.terms.aligned.Statement.{statement}
 use Rattle.fused.proofs.terms.aligned.Tie as tie

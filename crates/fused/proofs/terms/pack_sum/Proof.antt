@@ -1,7 +1,7 @@
 -- `fused::terms::pack_sum` meets its contract: by the cases of lib.Ieee's `sum`. Assumes nothing.
-use mathlib.Core.Path.{_≡_, refl, sym, ap, ap₂, _∙_}
+use mathlib.Core.Path.{_≡_, refl, sym, ap, _∙_}
 use Prim.Native.Nat.{ℕ, _-_, _*_, _^_, _<_}
-use native.Mathlib.Nat.{le-of-lt, le-antisymm, mul-comm, mul-sub, add-mul, mul-lt-mul-of-pos-right}
+use native.Mathlib.Nat.{le-of-lt, le-antisymm, add-mul, mul-lt-mul-of-pos-right}
 use native.Mathlib.Omega.{arith}
 use mathlib.Core.Bool.{Bool, true, false}
 use borrow.Author.Needs.{needs}
@@ -9,13 +9,10 @@ use borrow.Author.Tests.{ltb-true, ltb-false}
 use lib.Dec.{ltb}
 use lib.Pow.{pow-pos}
 use lib.Ieee.{binary64, round, ofBits}
-use Rattle.numbers.proofs.Sums.{sum-plus, sum-less, sum-more, sum-none}
+use Rattle.numbers.proofs.Sums.{sum-plus, sum-less, sum-more, sum-none, sub-mul}
 use Rattle.fused.specs.Steps.{limbs, scale}
 use Rattle.fused.proofs.terms.pack_sum.Statement.{statement}
 use Rattle.fused.proofs.terms.pack_sum.Tie as tie
-
-sub-mul : (x y g : ℕ) → (x - y) * g ≡ x * g - y * g
-sub-mul x y g = mul-comm (x - y) g ∙ mul-sub g x y ∙ ap₂ _-_ (mul-comm g x) (mul-comm g y)
 
 zero-law : ofBits binary64 0 ≡ round binary64 false 0 (scale binary64)
 unfolding ofBits round

@@ -10,7 +10,7 @@ use lib.Ieee.{Format, binary64, prec, size, round}
 use lib.Ieee.Digits.{size-le}
 use Rattle.numbers.proofs.Sizes.{size-zero}
 use Rattle.fused.specs.Steps.{limbs, below, scale}
-use Rattle.fused.proofs.Cutting.{cut-pos}
+use Rattle.fused.proofs.RoundToOdd.{cut-pos}
 use Rattle.fused.proofs.AlikeSums.{round-squeeze, size-wide}
 use Rattle.fused.proofs.terms.pack_wide.Statement.{statement}
 use Rattle.fused.proofs.terms.pack_wide.Tie as tie

@@ -14,7 +14,7 @@ use lib.Ieee.Digits.{size-le, size-lt}
 use Rattle.numbers.proofs.Sizes.{size-zero, size-pos}
 use Rattle.fused.specs.Odd.{toOdd, cutToOdd}
 use Rattle.fused.specs.Steps.{limbs}
-use Rattle.fused.proofs.Cutting.{cut-exact}
+use Rattle.fused.proofs.RoundToOdd.{cut-exact}
 use Rattle.fused.proofs.terms.squeeze.Statement.{statement}
 use Rattle.fused.proofs.terms.squeeze.Tie as tie
 

@@ -1,6 +1,4 @@
--- A number cut by some digits and made odd where something was cut off is alike the number, so a rounding two digits further up cannot tell them apart
--- (`round-cut`).
--- Assumes nothing.
+-- A number rounded to odd is alike the number, so a rounding to nearest two digits further up cannot tell them apart (`round-cut`). Assumes nothing.
 use mathlib.Core.Path.{_≡_, refl, sym, ap, ap₂, _∙_, subst}
 use mathlib.Core.Logic.{_⊎_, inl, inr}
 use Prim.Native.Nat.{ℕ, zero, suc, _+_, _-_, _*_, _/_, _%_, _^_, _≤_, _<_}
