@@ -7,7 +7,6 @@ use book::Controls;
 use book::Matrix;
 use book::Noise;
 use rules::Rule;
-use rules::Upper;
 use sweeps::on_pairs;
 use sweeps::swap_bits;
 use uppers::on_uppers;
@@ -19,6 +18,11 @@ ghost use Rattle.rules.specs.Rules.{ruleOf, upperRule};
 
 // A mask has 32 bits.
 const ANY: u32 = 32;
+
+// The numbers of the gates that leave s0.
+const Z: u32 = 0;
+
+const P: u32 = 1;
 
 // What a rule is fed that takes no angle, or no matrix.
 fn no_angle() -> Angle {
@@ -91,17 +95,7 @@ pub fn z_apply(
 ) -> Answer
     ensures { λ r. ⌜ Does (kernel zGate n target controls (buffers (now (reals .entry)) (now (imags .entry)))) r (buffers (now (reals .exit)) (now (imags .exit))) ⌝ }
 {
-    on_uppers(
-        reals,
-        imags,
-        n,
-        target,
-        controls,
-        0,
-        &[],
-        Upper::Z,
-        no_angle(),
-    )
+    on_uppers(reals, imags, n, target, controls, 0, &[], Z, no_angle())
 }
 
 // Up to one control.
@@ -147,7 +141,7 @@ pub fn p_apply(
         controls,
         ANY,
         &[angle.cosine, angle.sine],
-        Upper::P,
+        P,
         angle,
     )
 }

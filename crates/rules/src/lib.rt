@@ -21,12 +21,6 @@ pub enum Rule {
     U,
 }
 
-// The gates that leave s0 as it is.
-pub enum Upper {
-    Z,
-    P,
-}
-
 pub fn x_rule(p: Pair) -> Pair
     ensures { λ r. ⌜ r ≡ xRule p ⌝ }
 {
@@ -252,12 +246,12 @@ pub fn p_upper(angle: Angle, cd: Amplitude) -> Amplitude
     Amplitude { re, im }
 }
 
-// s1 under a gate that leaves s0.
-pub fn put_upper(upper: Upper, angle: Angle, cd: Amplitude) -> Amplitude
+// s1 under a gate that leaves s0, by number: Z, P.
+pub fn put_upper(upper: u32, angle: Angle, cd: Amplitude) -> Amplitude
     ensures { λ r. ⌜ r ≡ upperOf upper angle cd ⌝ }
 {
     match upper {
-        Upper::Z => z_upper(cd),
-        Upper::P => p_upper(angle, cd),
+        0 => z_upper(cd),
+        _ => p_upper(angle, cd),
     }
 }

@@ -6,7 +6,10 @@ use Rattle.book.specs.declared.Amplitude.{Amplitude}
 use Rattle.book.specs.declared.Angle.{Angle}
 use Rattle.book.specs.declared.Controls.{Controls}
 use Rattle.rules.specs.Rules.{upperOf}
-use Rattle.rules.specs.declared.Upper.{Upper}
 
-abbrev pub turnedAt : Controls → Upper → Angle → ℕ → Amplitude → Amplitude
+-- the controls of a mask
+abbrev pub masked : ℕ → Controls
+masked ones = record { ones = ones }
+
+abbrev pub turnedAt : Controls → ℕ → Angle → ℕ → Amplitude → Amplitude
 turnedAt controls upper angle i cd = cond (chosen controls i) (upperOf upper angle cd) cd

@@ -3,7 +3,6 @@ use book::Amplitude;
 use book::Angle;
 use book::Answer;
 use book::Controls;
-use rules::Upper;
 ghost use Prim.Native.Nat.{_+_, _≤_, _^_};
 ghost use lib.ListN.{length};
 ghost use mathlib.Core.Path.{_≡_};
@@ -14,13 +13,12 @@ ghost use Rattle.book.specs.State.{at, onPairs};
 ghost use Rattle.rules.specs.Rules.{upperRule};
 ghost use Rattle.state.specs.Judging.{Seated};
 ghost use Rattle.state.specs.Pairs.{Turned, SameSize};
-ghost use Rattle.uppers.specs.Uppers.{turnedAt};
+ghost use Rattle.uppers.specs.Uppers.{masked, turnedAt};
 
 // The place i, whose amplitude is cd: turned where the controls choose it.
-fn turn_at(controls: Controls, upper: Upper, angle: Angle, i: usize, cd: Amplitude) -> Amplitude
-    ensures { λ r. ⌜ r ≡ turnedAt controls upper angle i cd ⌝ }
+fn turn_at(ones: usize, upper: u32, angle: Angle, i: usize, cd: Amplitude) -> Amplitude
+    ensures { λ r. ⌜ r ≡ turnedAt (masked ones) upper angle i cd ⌝ }
 {
-    let ones = controls.ones as usize;
     if i & ones == ones {
         return rules::put_upper(upper, angle, cd);
     }
@@ -32,12 +30,12 @@ fn turn_half(
     reals: &mut [f64],
     imags: &mut [f64],
     from: usize,
-    controls: Controls,
-    upper: Upper,
+    ones: usize,
+    upper: u32,
     angle: Angle,
 )
     requires { ⌜ (length (now imags) ≡ length (now reals)) × (from + length (now reals) ≤ 2 ^ 24) ⌝ }
-    ensures { λ _. ⌜ Turned (λ j. turnedAt controls upper angle (from + j)) 0 (length (now (reals .entry))) (at (buffers (now (reals .entry)) (now (imags .entry)))) (at (buffers (now (reals .exit)) (now (imags .exit)))) × SameSize (buffers (now (reals .entry)) (now (imags .entry))) (buffers (now (reals .exit)) (now (imags .exit))) ⌝ }
+    ensures { λ _. ⌜ Turned (λ j. turnedAt (masked ones) upper angle (from + j)) 0 (length (now (reals .entry))) (at (buffers (now (reals .entry)) (now (imags .entry)))) (at (buffers (now (reals .exit)) (now (imags .exit)))) × SameSize (buffers (now (reals .entry)) (now (imags .entry))) (buffers (now (reals .exit)) (now (imags .exit))) ⌝ }
 {
     let mut j = 0;
     while j < reals.len() {
@@ -45,25 +43,25 @@ fn turn_half(
             re: reals[j],
             im: imags[j],
         };
-        let turned = turn_at(controls, upper, angle, from + j, cd);
+        let turned = turn_at(ones, upper, angle, from + j, cd);
         reals[j] = turned.re;
         imags[j] = turned.im;
         j += 1;
     }
 }
 
-// Block by block; the upper half of a block is from a to e.
+// Block by block; the upper half of a block is from a to e. The numbers that stand as literals at a call let the compiler leave the tests out.
 fn turn_blocks(
     reals: &mut [f64],
     imags: &mut [f64],
     n: u32,
     target: u32,
-    controls: Controls,
-    upper: Upper,
+    ones: usize,
+    upper: u32,
     angle: Angle,
 )
-    requires { ⌜ Seated n target controls (buffers (now reals) (now imags)) ⌝ }
-    ensures { λ _. ⌜ buffers (now (reals .exit)) (now (imags .exit)) ≡ onPairs (upperRule upper angle) n target controls (buffers (now (reals .entry)) (now (imags .entry))) ⌝ }
+    requires { ⌜ Seated n target (masked ones) (buffers (now reals) (now imags)) ⌝ }
+    ensures { λ _. ⌜ buffers (now (reals .exit)) (now (imags .exit)) ≡ onPairs (upperRule upper angle) n target (masked ones) (buffers (now (reals .entry)) (now (imags .entry))) ⌝ }
 {
     let size: usize = 1 << n;
     let bit: usize = 1 << target;
@@ -71,14 +69,7 @@ fn turn_blocks(
     while base < size {
         let a = base + bit;
         let e = a + bit;
-        turn_half(
-            &mut reals[a..e],
-            &mut imags[a..e],
-            a,
-            controls,
-            upper,
-            angle,
-        );
+        turn_half(&mut reals[a..e], &mut imags[a..e], a, ones, upper, angle);
         base = e;
     }
 }
@@ -92,14 +83,21 @@ pub fn on_uppers(
     controls: Controls,
     most: u32,
     numbers: &[f64],
-    upper: Upper,
+    upper: u32,
     angle: Angle,
 ) -> Answer
     ensures { λ r. ⌜ Does (kernel (pairGate (upperRule upper angle) most (now (numbers .entry))) n target controls (buffers (now (reals .entry)) (now (imags .entry)))) r (buffers (now (reals .exit)) (now (imags .exit))) ⌝ }
 {
     let answer = state::judge(reals, imags, n, target, controls, most, numbers);
     if let Answer::Taken = answer {
-        turn_blocks(reals, imags, n, target, controls, upper, angle);
+        let ones = controls.ones as usize;
+        if ones == 0 {
+            if upper == 0 {
+                turn_blocks(reals, imags, n, target, 0, 0, angle);
+                return answer;
+            }
+        }
+        turn_blocks(reals, imags, n, target, ones, upper, angle);
     }
     answer
 }

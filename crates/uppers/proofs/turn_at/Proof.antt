@@ -14,4 +14,4 @@ unfolding chosen
 returns-2 c = rw (ne-eqb _ _ (c .if1 .left))
 
 pub turn-at-spec : {M : Type 1} → statement M
-turn-at-spec = tie.close (tie.spec (λ c. search needs) (λ c κs. search needs) returns returns-2)
+turn-at-spec = tie.close (tie.spec (λ c κs. search needs) returns returns-2)

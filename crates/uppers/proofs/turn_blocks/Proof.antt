@@ -9,16 +9,16 @@ use Rattle.rules.proofs.Uppers.{leaves-s0}
 use Rattle.rules.specs.Rules.{upperRule, upperOf}
 use Rattle.state.proofs.Halves.{Blocks, blocks-start, blocks-room, blocks-steps, blocks-gate}
 use Rattle.state.proofs.Shifts.{shl, shl-is, pow-le}
-use Rattle.uppers.specs.Uppers.{turnedAt}
+use Rattle.uppers.specs.Uppers.{masked, turnedAt}
 use Rattle.uppers.proofs.turn_blocks.Statement.{statement}
 use Rattle.uppers.proofs.turn_blocks.Tie as tie
 
 abbrev Inv-loop : tie.InvT-loop
-Inv-loop reals₀ imags₀ n target controls upper angle size bit base₀ reals imags base =
-    Blocks (turnedAt controls upper angle) n target (buffers reals₀ imags₀) base (buffers reals imags)
+Inv-loop reals₀ imags₀ n target ones upper angle size bit base₀ reals imags base =
+    Blocks (turnedAt (masked ones) upper angle) n target (buffers reals₀ imags₀) base (buffers reals imags)
 
 abbrev μ-loop : tie.MeasureT-loop
-μ-loop reals₀ imags₀ n target controls upper angle size bit base₀ reals imags base = size - base
+μ-loop reals₀ imags₀ n target ones upper angle size bit base₀ reals imags base = size - base
 
 abbrev start : tie.In-loop Inv-loop μ-loop → tie.Start Inv-loop μ-loop
 start c = c .before .before .before .before

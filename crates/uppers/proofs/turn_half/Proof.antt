@@ -4,16 +4,16 @@ use borrow.Author.Needs.{needs}
 use lib.ListN.{length}
 use Rattle.book.specs.Answers.{buffers}
 use Rattle.state.proofs.Halves.{Walked, walk-starts, walk-steps, walk-ends}
-use Rattle.uppers.specs.Uppers.{turnedAt}
+use Rattle.uppers.specs.Uppers.{masked, turnedAt}
 use Rattle.uppers.proofs.turn_half.Statement.{statement}
 use Rattle.uppers.proofs.turn_half.Tie as tie
 
 abbrev Inv-loop : tie.InvT-loop
-Inv-loop reals₀ imags₀ from controls upper angle j₀ reals imags j =
-    Walked (λ k. turnedAt controls upper angle (from + k)) (buffers reals₀ imags₀) j (buffers reals imags)
+Inv-loop reals₀ imags₀ from ones upper angle j₀ reals imags j =
+    Walked (λ k. turnedAt (masked ones) upper angle (from + k)) (buffers reals₀ imags₀) j (buffers reals imags)
 
 abbrev μ-loop : tie.MeasureT-loop
-μ-loop reals₀ imags₀ from controls upper angle j₀ reals imags j = length reals₀ - j
+μ-loop reals₀ imags₀ from ones upper angle j₀ reals imags j = length reals₀ - j
 
 loop-again : tie.Need-loop-again Inv-loop μ-loop
 loop-again c =
