@@ -38,7 +38,9 @@ cast-byte : tie.Need-cast-byte Inv-loop μ-loop
 cast-byte c = omega (arith, c .shared-slice-known .given (c .before .before .before .args .at + c .before .before .loop .i))
 
 mul-n : tie.Need-mul-n Inv-loop μ-loop
-mul-n c = let l = c .before .before .loop in omega (arith, room (l .n) (l .i) (l .inv .2) (omega arith))
+mul-n c =
+    let l = c .before .before .loop in
+    omega (arith, room (l .n) (l .i) (l .inv .2) (omega arith), c .shared-slice-known .given (c .before .before .before .args .at + l .i))
 
 add-n : tie.Need-add-n Inv-loop μ-loop
 add-n c =
