@@ -29,8 +29,11 @@ const LONG: usize = 32;
 // The last number of a gate that needs no F.
 const QUICK: u32 = 4;
 
-// The first number of a gate that takes an angle: two pairs of those at a turn are more than the compiler joins.
+// The first number of a gate that takes an angle: two pairs of those at a turn are more than the compiler joins,
+// and below this length their runs go key by key.
 const ROTATION: u32 = 3;
+
+const BRIEF: usize = 8;
 
 // Run by run where neighbouring keys or places allow it, and else key by key. The fixed bits are cut in two: the ones that they
 // end in give the stride, and the lowest bit of the rest the length of a run.
@@ -69,8 +72,10 @@ fn sweep(
                 short(reals, imags, n, wide, run, back0, back1, code, angle);
                 return;
             }
-            by_keys(reals, imags, n, fixed, back0, back1, rule, angle, matrix);
-            return;
+            if run < BRIEF {
+                by_keys(reals, imags, n, fixed, back0, back1, rule, angle, matrix);
+                return;
+            }
         }
         dense(reals, imags, n, wide, run, back0, back1, code, angle);
         return;

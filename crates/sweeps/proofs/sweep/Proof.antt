@@ -39,7 +39,7 @@ returns-6 c =
     let ran = c .before .before .before .before in
     let near = ran .before .before .before in
     let at = near .before .before .before in
-    rw (sym (named at)) (W.swept-near (start at .pre) (free at) (near .before .if6 .taken) (near .if7 .taken) (ran .neighbours .ensures))
+    rw (sym (named at)) (W.swept-near (start at .pre) (free at) (near .before .if7 .taken) (near .if8 .taken) (ran .neighbours .ensures))
 
 pub sweep-spec : {M : Type 1} → statement M
 sweep-spec =
@@ -76,7 +76,7 @@ sweep-spec =
     (λ c. search needs)
     (λ c. search needs)
     returns-5
-    (λ c κs. let at = c .before .before in W.runs-near (start (at .before .before .before) .pre) (free (at .before .before .before)) (at .before .if6 .taken) (at .if7 .taken))
+    (λ c κs. let at = c .before .before in W.runs-near (start (at .before .before .before) .pre) (free (at .before .before .before)) (at .before .if7 .taken) (at .if8 .taken))
     (λ c. search needs)
     (λ c. search needs)
     returns-6
