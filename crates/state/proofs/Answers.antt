@@ -7,7 +7,7 @@ use native.Mathlib.Omega.{arith}
 use types.Run.{OneOf, miss}
 use denote.Enum.Declared.{tagOf}
 use Rattle.book.proofs.Answer as E
-use Rattle.book.specs.Answers.{Said, taken, value, refused, numberOf, says, Buffers, Outcome, outcome, unless, Does}
+use Rattle.book.specs.Answers.{Said, taken, value, refused, says, Buffers, Outcome, unless, Does}
 use Rattle.book.specs.declared.Answer.{Answer}
 use Rattle.book.specs.declared.Answer.the-variants.{Taken, Value, Refused}
 use Rattle.book.specs.declared.Refusal.{Refusal}

@@ -1,15 +1,14 @@
 -- SWAP and bit flip after their judge, in the code's terms. Assumes nothing.
 use Prim.Native.Nat.{ℕ, zero, suc, _+_, _^_, _≤_, _<_}
 use mathlib.Core.Bool.{Bool, true, false, cond}
-use mathlib.Core.List.{List, [], _∷_}
+use mathlib.Core.List.{[], _∷_}
 use mathlib.Core.Path.{_≡_, refl, sym, ap, ap₂, _∙_, subst}
 use native.Mathlib.Omega.{arith}
 use denote.Enum.Declared.{tagOf}
 use lib.Ieee as Ieee
-use lib.Pow.{pow-lt}
 use types.Run.{OneOf}
 use Rattle.book.proofs.Answer as E
-use Rattle.book.specs.Answers.{Said, taken, value, says, Buffers, Outcome, outcome, unless, Does}
+use Rattle.book.specs.Answers.{taken, value, says, Buffers, Outcome, outcome, unless, Does}
 use Rattle.book.specs.Gates.{pairGate, xRule, xGate, noiseOf}
 use Rattle.book.specs.Kernels.{kernel, kernelRefusal, uncontrolled, swap, swapped, swapRefusal, bitFlip, bitFlipRefusal}
 use Rattle.book.specs.State.{onPairs}

@@ -1,7 +1,7 @@
 -- The pairs that a target and its controls choose are those of the keys that have the controls' bits and the target's. Assumes nothing.
 use Prim.Native.Nat.{ℕ, _+_, _-_, _^_, _<_}
 use mathlib.Core.Bool.{Bool, true, false}
-use mathlib.Core.Logic.{_⊎_, inl, inr, ⊎-elim}
+use mathlib.Core.Logic.{⊎-elim}
 use mathlib.Core.Path.{_≡_, refl, sym, ap, _∙_, subst}
 use native.Mathlib.Nat.{sub-zero, add-zero}
 use native.Mathlib.Omega.{arith}
@@ -9,7 +9,7 @@ use borrow.Author.Tests.{eq-eqb, eqb-true}
 use lib.Bits.{bitAnd}
 use lib.Pow.{pow-pos}
 use Rattle.book.specs.Answers.{Buffers}
-use Rattle.book.specs.State.{State, at, held, bit, chosen, choice, pair, placed, onPairs}
+use Rattle.book.specs.State.{State, at, bit, chosen, choice, pair, placed, onPairs}
 use Rattle.book.specs.declared.Controls.{Controls}
 use Rattle.book.specs.declared.Pair.{Pair}
 use Rattle.state.specs.Judging.{Seated}

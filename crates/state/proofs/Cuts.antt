@@ -1,6 +1,5 @@
 -- The fixed bits cut in two: the ones that they end in, below stride, and the rest, whose lowest bit gives the length of a run. Assumes nothing.
 use Prim.Native.Nat.{ℕ, zero, suc, _+_, _-_, _*_, _/_, _%_, _^_, _≤_, _<_}
-use mathlib.Core.Logic.{_⊎_, inl, inr, ⊎-elim}
 use mathlib.Core.Path.{_≡_, refl, sym, ap, _∙_}
 use native.Mathlib.Decide.{ℕ-discrete, decLt}
 use native.Mathlib.Nat.{pow-suc, mul-assoc, mul-comm, add-mul, one-mul, le-of-mul-le-mul-right}

@@ -1,19 +1,18 @@
 -- SWAP: the pairs that it exchanges are those of the keys that have both bits, and exchanged twice every place is itself. Assumes nothing.
-use Prim.Native.Nat.{ℕ, zero, suc, _+_, _-_, _*_, _^_, _≤_, _<_}
-use mathlib.Core.Logic.{_⊎_, inl, inr, ⊎-elim}
-use mathlib.Core.Path.{_≡_, refl, sym, ap, ap₂, _∙_, subst}
+use Prim.Native.Nat.{ℕ, _+_, _-_, _^_, _≤_, _<_}
+use mathlib.Core.Logic.{⊎-elim}
+use mathlib.Core.Path.{_≡_, sym, ap, _∙_, subst}
 use native.Mathlib.Decide.{ℕ-discrete}
 use native.Mathlib.Omega.{arith}
-use lib.Bits.{bitAnd}
 use lib.ListN.{length}
-use lib.Pow.{pow-pos, pow-lt}
+use lib.Pow.{pow-lt}
 use Rattle.book.specs.Answers.{Buffers}
 use Rattle.book.specs.Gates.{xRule}
 use Rattle.book.specs.Kernels.{exchanged, swapped}
-use Rattle.book.specs.State.{State, at, held, bit}
+use Rattle.book.specs.State.{State, at, bit}
 use Rattle.state.specs.Pairs.{Has, Paired, Keyed, Swept}
-use Rattle.state.proofs.Bits.{halves, bit-up, bit-le, bit-before, bit-down, up-lt, has-set, set-has, bit-pow, bit-of-and, and-of-bit, bit-other}
-use Rattle.state.proofs.Buffers.{held-ext, held-same, at-held, reals-held, imags-held}
+use Rattle.state.proofs.Bits.{halves, bit-up, bit-le, bit-before, up-lt, has-set, set-has, bit-pow, bit-of-and, and-of-bit, bit-other}
+use Rattle.state.proofs.Buffers.{held-ext, held-same, at-held}
 
 -- ---- the exchanged index, by the two bits
 module _ (t u i : ℕ) where

@@ -1,15 +1,14 @@
 -- Calls without controls: SWAP and bit flip are judged as a gate with none is. Assumes nothing.
-use Prim.Native.Nat.{ℕ, _+_, _%_, _/_, _^_, _≤_, _<_}
+use Prim.Native.Nat.{ℕ, _^_, _≤_, _<_}
 use mathlib.Core.Bool.{Bool, true, false, not, _||_}
-use mathlib.Core.List.{List, [], _∷_}
+use mathlib.Core.List.{[], _∷_}
 use mathlib.Core.Path.{_≡_, refl, sym, ap, _∙_}
 use native.Mathlib.Decide.{decLt}
 use native.Mathlib.Nat.{zero-div}
 use native.Mathlib.Omega.{arith}
-use borrow.Author.Tests.{lt-ltb, le-ltb, le-leb, lt-leb, eq-eqb, ne-eqb}
+use borrow.Author.Tests.{le-ltb, le-leb, lt-leb, ne-eqb}
 use lib.Count.{ones, ones-le}
-use lib.Dec.{eqb, leb, ltb}
-use lib.Ieee.{Float}
+use lib.Dec.{leb, ltb}
 use lib.ListN.{length}
 use lib.Pow.{pow-pos}
 use Rattle.book.specs.Answers.{taken, _⇒_, first, Buffers}
@@ -18,7 +17,7 @@ use Rattle.book.specs.Kernels.{kernelRefusal, swapRefusal, bitFlipRefusal, badS
 use Rattle.book.specs.State.{bit}
 use Rattle.book.specs.declared.Controls.{Controls}
 use Rattle.book.specs.declared.Noise.{Noise}
-use Rattle.state.specs.Judging.{verdict, Seated, Accepted}
+use Rattle.state.specs.Judging.{verdict, Accepted}
 use Rattle.state.proofs.Refusals as R
 
 -- without controls tests 3, 4 and 5 look at the target alone

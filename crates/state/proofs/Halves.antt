@@ -1,18 +1,17 @@
 -- Places turned one by one, over any function of the place: a walk along a lent part, and the upper half of each block in turn.
 -- What a gate that leaves s0 does is this, with the identity on the lower halves. Assumes nothing.
-use Prim.Native.Nat.{ℕ, zero, suc, _+_, _-_, _*_, _/_, _%_, _^_, _≤_, _<_}
+use Prim.Native.Nat.{ℕ, zero, suc, _+_, _-_, _*_, _/_, _^_, _≤_, _<_}
 use mathlib.Core.Bool.{Bool, true, false, cond}
-use mathlib.Core.List.{List}
 use mathlib.Core.Path.{_≡_, refl, sym, ap, ap₂, _∙_, subst}
-use native.Mathlib.Decide.{ℕ-discrete, decLt}
+use native.Mathlib.Decide.{decLt}
 use native.Mathlib.Nat.{pow-suc, mul-assoc, mul-comm, add-mul, one-mul, lt-of-mul-lt-mul-right, mul-le-mul-right}
 use native.Mathlib.Omega.{arith}
 use lib.Ieee.{Float, nan}
-use lib.ListN.{length, getD, set, length-set}
-use lib.Pow.{pow-pos, pow-add, high}
+use lib.ListN.{length, set, length-set}
+use lib.Pow.{pow-add, high}
 use lib.Seq.{getD-set-same, getD-set-other}
 use Rattle.book.specs.Answers.{Buffers, buffers}
-use Rattle.book.specs.State.{State, amplitude, at, held, bit, chosen, half, choice, pair, placeBy, placed, onPairs}
+use Rattle.book.specs.State.{State, amplitude, at, bit, chosen, half, choice, pair, placeBy, placed, onPairs}
 use Rattle.book.specs.declared.Amplitude.{Amplitude}
 use Rattle.book.specs.declared.Controls.{Controls}
 use Rattle.book.specs.declared.Pair.{Pair}
@@ -20,7 +19,6 @@ use Rattle.state.specs.Judging.{Seated}
 use Rattle.state.specs.Pairs.{SameSize, Turned}
 use Rattle.state.proofs.Buffers.{held-ext}
 use Rattle.state.proofs.Lending.{lent, returned, lent-reals, lent-place, back-same, back-inside, back-before, back-after}
-use Rattle.state.proofs.Shifts.{shl, shl-is, pow-le}
 
 module _ (f : ℕ → Amplitude → Amplitude) where
   -- no place yet

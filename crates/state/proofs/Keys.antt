@@ -1,13 +1,10 @@
 -- The keys that have all bits of a set, gone over by w = (w + 1) | fixed: no key is passed over. Assumes nothing.
 use Prim.Native.Nat.{ℕ, _+_, _-_, _^_, _≤_, _<_}
-use mathlib.Core.List.{List}
-use mathlib.Core.Path.{_≡_, refl, sym, _∙_, subst}
+use mathlib.Core.Path.{_≡_, refl, _∙_, subst}
 use native.Mathlib.Decide.{decLt}
 use native.Mathlib.Omega.{arith}
-use lib.Bits.{bitAnd, bitOr, and-self, and-le-l}
-use lib.Ieee.{Float}
-use lib.ListN.{length}
-use Rattle.book.specs.Answers.{Buffers, buffers}
+use lib.Bits.{bitOr, and-self, and-le-l}
+use Rattle.book.specs.Answers.{Buffers}
 use Rattle.book.specs.State.{at}
 use Rattle.book.specs.declared.Pair.{Pair}
 use Rattle.state.specs.Pairs.{TwoPlaces, Stepped, SameSize, Apart, Paired, Has, Keyed, Swept}

@@ -1,7 +1,7 @@
 -- THE LAW OF THE LOOP over chosen pairs, over any rule and any choice: work on the keys below b and work on the keys from b on join.
 -- What a loop keeps is then one line; the rest says how one pair, a gap without keys, and a change of the numbering fit in. Assumes nothing.
 use Prim.Native.Nat.{ℕ, _+_, _≤_, _<_}
-use mathlib.Core.Logic.{_⊎_, inl, inr, ⊎-elim}
+use mathlib.Core.Logic.{inl, inr, ⊎-elim}
 use mathlib.Core.Path.{_≡_, refl, sym, ap, ap₂, _∙_, subst}
 use native.Mathlib.Decide.{decLt}
 use native.Mathlib.Omega.{arith}

@@ -1,7 +1,7 @@
 -- Which refusal is given, from the tests in their order; and what holds where none is. Assumes nothing.
-use Prim.Native.Nat.{ℕ, zero, suc, _/_, _^_, _≤_, _<_}
+use Prim.Native.Nat.{ℕ, suc, _/_, _^_, _≤_, _<_}
 use mathlib.Core.Bool.{Bool, true, false, not, cond, _||_}
-use mathlib.Core.Path.{_≡_, refl, sym, _∙_}
+use mathlib.Core.Path.{_≡_, refl}
 use native.Mathlib.Nat.{mod-lt, zero-lt-suc}
 use native.Mathlib.Omega.{arith}
 use borrow.Author.Tests.{ltb-false, leb-false, eqb-true, eqb-false, not-false, lt-ltb, le-ltb, le-leb, lt-leb, eq-eqb, ne-eqb}
@@ -12,7 +12,7 @@ use Rattle.book.specs.Gates.{PairGate}
 use Rattle.book.specs.Kernels.{kernelRefusal, badSize, mostQubits, badLength, outside, clash, count, allFinite}
 use Rattle.book.specs.State.{bit}
 use Rattle.book.specs.declared.Controls.{Controls}
-use Rattle.state.specs.Judging.{verdict, Seated, Accepted}
+use Rattle.state.specs.Judging.{verdict, Accepted}
 
 -- ---- the refusal from its tests
 module _ (g : PairGate) (n t : ℕ) (c : Controls) (b : Buffers) where

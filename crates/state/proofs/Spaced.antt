@@ -1,12 +1,12 @@
 -- A walk along a lent run, one pair or two at a turn, for any rule. Assumes nothing.
-use Prim.Native.Nat.{ℕ, zero, suc, _+_, _-_, _*_, _/_, _%_, _^_, _≤_, _<_}
+use Prim.Native.Nat.{ℕ, _+_, _-_, _*_, _/_, _%_, _≤_, _<_}
 use mathlib.Core.List.{List}
 use mathlib.Core.Logic.{_⊎_, inl, inr, ⊎-elim}
 use mathlib.Core.Path.{_≡_, refl, sym, ap, ap₂, _∙_, subst}
-use native.Mathlib.Decide.{ℕ-discrete, decLt}
+use native.Mathlib.Decide.{ℕ-discrete}
 use native.Mathlib.Nat.{div-add-mod', lt-of-mul-lt-mul-right, mul-le-mul-right, add-mul, one-mul, mul-comm, mul-assoc, add-mod-right, zero-mod, mul-mod-left}
 use native.Mathlib.Omega.{arith}
-use lib.Ieee.{Float, nan}
+use lib.Ieee.{nan}
 use lib.ListN.{length, getD, set, length-set}
 use lib.Seq.{getD-set-same, getD-set-other}
 use Rattle.book.specs.Answers.{Buffers, buffers}

@@ -3,17 +3,17 @@ use Prim.Native.Nat.{ℕ, zero, suc, _+_, _-_, _*_, _/_, _%_, _^_, _≤_, _<_}
 use mathlib.Core.Logic.{_⊎_, inl, inr, ⊎-elim}
 use mathlib.Core.Path.{_≡_, refl, sym, ap, ap₂, _∙_, subst}
 use native.Mathlib.Decide.{decLt}
-use native.Mathlib.Nat.{mul-assoc, mul-comm, add-mul, one-mul, pow-suc, le-div-iff-mul-le, mod-lt, lt-of-mul-lt-mul-right, mul-le-mul-right, div-add-mod', mul-mod-left, zero-mod}
+use native.Mathlib.Nat.{add-mul, one-mul, pow-suc, le-div-iff-mul-le, mod-lt, lt-of-mul-lt-mul-right, mul-le-mul-right, div-add-mod', mul-mod-left, zero-mod}
 use native.Mathlib.Omega.{arith}
 use borrow.Author.Needs.{zero≤}
-use lib.Bits.{bitAnd, bitOr, and-self, and-le-l, and-le-r, or-zero-r, and-mask, and-block, or-block}
+use lib.Bits.{bitAnd, bitOr, and-self, and-le-r, or-zero-r, and-mask, and-block, or-block}
 use lib.ListN.{length}
 use lib.Pow as Pow
 use lib.Pow.{pow-pos, pow-mono, split, high}
 use Rattle.book.specs.Answers.{Buffers}
-use Rattle.book.specs.State.{State, at, pair}
+use Rattle.book.specs.State.{at, pair}
 use Rattle.book.specs.declared.Pair.{Pair}
-use Rattle.state.specs.Pairs.{SameSize, Paired, Has, Keyed, Swept}
+use Rattle.state.specs.Pairs.{SameSize, Paired, Has, Swept}
 use Rattle.state.specs.Runs.{Spaced, lastOf, Run, Ran, Cut, Runs}
 use Rattle.state.proofs.Bits.{or-ge, or-covers, next-least}
 use Rattle.state.proofs.Cuts.{pow-split}
@@ -258,6 +258,17 @@ module _ {n wide run stride back0 back1 : ℕ} {b₀ : Buffers} (ok : Runs n wid
       inside-run : (v : ℕ) → v < run - (stride - 1) → u + (stride - 1) + v < u + run
       inside-run v y = omega arith
 
+      -- a key of the run and its number in the part, either way
+      abbrev Found : ℕ → ℕ → Type 0
+      Found =
+          Same′ rule (Has (wide + (stride - 1))) (λ v. v - back0) (λ v. v - back1) (Spaced stride (k - (back0 - back1)))
+          (λ i. a + i) (λ i. a + i + (back0 - back1)) u (u + run) 0 (k - (back0 - back1))
+
+      abbrev Back : ℕ → ℕ → Type 0
+      Back =
+          Same rule (Has (wide + (stride - 1))) (λ v. v - back0) (λ v. v - back1) (Spaced stride (k - (back0 - back1)))
+          (λ i. a + i) (λ i. a + i + (back0 - back1)) u (u + run) 0 (k - (back0 - back1))
+
       pub turns-ask : Run (back0 - back1) stride (lent a k b)
       turns-ask =
           let q = numbers l in
@@ -318,7 +329,7 @@ module _ {n wide run stride back0 back1 : ℕ} {b₀ : Buffers} (ok : Runs n wid
               (Spaced stride (k - (back0 - back1))) (λ i. a + i) (λ i. a + i + (back0 - back1)) u (u + run) 0 (k - (back0 - back1))
               (λ w key x y. found w key x y) (λ v key x y. back v key y) lifted
             where
-              found : (w : ℕ) → Has (wide + (stride - 1)) w → u ≤ w → w < u + run → (v : ℕ) × Same′ rule (Has (wide + (stride - 1))) (λ v. v - back0) (λ v. v - back1) (Spaced stride (k - (back0 - back1))) (λ i. a + i) (λ i. a + i + (back0 - back1)) u (u + run) 0 (k - (back0 - back1)) w v
+              found : (w : ℕ) → Has (wide + (stride - 1)) w → u ≤ w → w < u + run → (v : ℕ) × Found w v
               found w key x y =
                   let v : ℕ = w - u in
                   let vr : v < run = omega arith in
@@ -337,7 +348,7 @@ module _ {n wide run stride back0 back1 : ℕ} {b₀ : Buffers} (ok : Runs n wid
                     },
                   )
 
-              back : (v : ℕ) → Spaced stride (k - (back0 - back1)) v → v < k - (back0 - back1) → (w : ℕ) × Same rule (Has (wide + (stride - 1))) (λ v. v - back0) (λ v. v - back1) (Spaced stride (k - (back0 - back1))) (λ i. a + i) (λ i. a + i + (back0 - back1)) u (u + run) 0 (k - (back0 - back1)) v w
+              back : (v : ℕ) → Spaced stride (k - (back0 - back1)) v → v < k - (back0 - back1) → (w : ℕ) × Back v w
               back v key y =
                   let m : v < run - (stride - 1) = rw last-is at y in (
                     u + (stride - 1) + v,

@@ -1,16 +1,13 @@
 -- X and SWAP applied twice restore every bit: about the definitions, and about two calls that their contracts allow. Assumes nothing.
 use Prim.Native.Nat.{ℕ, zero, suc, _+_, _-_, _^_, _<_}
-use mathlib.Core.Bool.{Bool, true, false}
-use mathlib.Core.Logic.{_⊎_, inl, inr, ⊎-elim}
-use mathlib.Core.Path.{_≡_, refl, sym, ap, _∙_}
+use mathlib.Core.Logic.{⊎-elim}
+use mathlib.Core.Path.{_≡_, sym, ap, _∙_}
 use native.Mathlib.Omega.{arith}
-use borrow.Author.Tests.{leb-false, eqb-true}
 use lib.ListN.{length}
-use Rattle.book.specs.Answers.{Said, taken, says, Buffers, Outcome, outcome, unless, Does}
+use Rattle.book.specs.Answers.{taken, says, Buffers, outcome, unless, Does}
 use Rattle.book.specs.Gates.{xRule, xGate}
 use Rattle.book.specs.Kernels.{kernel, kernelRefusal, swap, swapRefusal, swapped}
-use Rattle.book.specs.State.{State, at, held, bit, chosen, placed, onPairs}
-use Rattle.book.specs.declared.Answer.{Answer}
+use Rattle.book.specs.State.{State, at, bit, chosen, placed, onPairs}
 use Rattle.book.specs.declared.Answer.the-variants.{Taken}
 use Rattle.book.specs.declared.Controls.{Controls}
 use Rattle.state.specs.Judging.{verdict}

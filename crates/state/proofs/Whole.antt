@@ -1,13 +1,13 @@
 -- The cut of the fixed bits in the code's terms, and a run's numbers replaced by the literals that they equal. Assumes nothing.
 use Prim.Native.Nat.{ℕ, _+_, _-_, _^_, _≤_, _<_}
-use mathlib.Core.Path.{_≡_, refl, sym, ap, _∙_, subst}
+use mathlib.Core.Path.{_≡_, sym, ap, _∙_, subst}
 use native.Mathlib.Omega.{arith}
 use lib.Count.{trailingZeros}
 use lib.Pow.{pow-pos}
 use Rattle.book.specs.Answers.{Buffers}
 use Rattle.book.specs.declared.Pair.{Pair}
 use Rattle.state.specs.Pairs.{Keyed, Swept}
-use Rattle.state.specs.Runs.{Cut, Runs}
+use Rattle.state.specs.Runs.{Runs}
 use Rattle.state.proofs.Cuts.{tail-lt, low-le, wide-sum, run-le, cut}
 use Rattle.state.proofs.Shifts.{shl, shl-is, pow-le}
 

@@ -1,12 +1,10 @@
 -- Pairs of places found by keys, and what a rule put to each of them leaves. Definitions only. Assumes nothing.
 use Prim.Native.Nat.{ℕ, _+_, _-_, _≤_, _<_, _^_}
-use mathlib.Core.List.{List}
 use mathlib.Core.Logic.{_⊎_}
 use mathlib.Core.Path.{_≡_}
 use lib.Bits.{bitAnd}
-use lib.Ieee.{Float}
 use lib.ListN.{length}
-use Rattle.book.specs.Answers.{Buffers, buffers}
+use Rattle.book.specs.Answers.{Buffers}
 use Rattle.book.specs.State.{State, at, pair}
 use Rattle.book.specs.declared.Amplitude.{Amplitude}
 use Rattle.book.specs.declared.Pair.{Pair}

@@ -3,9 +3,7 @@
 use book::Answer;
 use book::Controls;
 use book::Refusal;
-ghost use Prim.Native.Nat.{_≤_};
 ghost use lib.Ieee.Scale.{finite};
-ghost use lib.ListN.{length};
 ghost use mathlib.Core.Path.{_≡_};
 ghost use Rattle.book.specs.Answers.{buffers};
 ghost use Rattle.book.specs.Kernels.{allFinite};
