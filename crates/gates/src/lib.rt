@@ -10,11 +10,9 @@ use rules::Rule;
 use sweeps::on_pairs;
 use sweeps::swap_bits;
 use uppers::on_uppers;
-ghost use Prim.Native.Nat.{_≤_};
 ghost use Rattle.book.specs.Answers.{buffers, Does};
-ghost use Rattle.book.specs.Gates.{any, pairGate, xGate, yGate, zGate, hGate, pGate, rxGate, ryGate, rzGate, uGate};
+ghost use Rattle.book.specs.Gates.{xGate, yGate, zGate, hGate, pGate, rxGate, ryGate, rzGate, uGate};
 ghost use Rattle.book.specs.Kernels.{kernel, swap, bitFlip};
-ghost use Rattle.rules.specs.Rules.{ruleOf, upperRule};
 
 // A mask has 32 bits.
 const ANY: u32 = 32;

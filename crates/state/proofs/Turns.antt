@@ -258,6 +258,17 @@ module _ {n wide run stride back0 back1 : ℕ} {b₀ : Buffers} (ok : Runs n wid
       inside-run : (v : ℕ) → v < run - (stride - 1) → u + (stride - 1) + v < u + run
       inside-run v y = omega arith
 
+      -- a key of the run and its number in the part, either way
+      abbrev Found : ℕ → ℕ → Type 0
+      Found =
+          Same′ rule (Has (wide + (stride - 1))) (λ v. v - back0) (λ v. v - back1) (Spaced stride (k - (back0 - back1)))
+          (λ i. a + i) (λ i. a + i + (back0 - back1)) u (u + run) 0 (k - (back0 - back1))
+
+      abbrev Back : ℕ → ℕ → Type 0
+      Back =
+          Same rule (Has (wide + (stride - 1))) (λ v. v - back0) (λ v. v - back1) (Spaced stride (k - (back0 - back1)))
+          (λ i. a + i) (λ i. a + i + (back0 - back1)) u (u + run) 0 (k - (back0 - back1))
+
       pub turns-ask : Run (back0 - back1) stride (lent a k b)
       turns-ask =
           let q = numbers l in
@@ -318,7 +329,7 @@ module _ {n wide run stride back0 back1 : ℕ} {b₀ : Buffers} (ok : Runs n wid
               (Spaced stride (k - (back0 - back1))) (λ i. a + i) (λ i. a + i + (back0 - back1)) u (u + run) 0 (k - (back0 - back1))
               (λ w key x y. found w key x y) (λ v key x y. back v key y) lifted
             where
-              found : (w : ℕ) → Has (wide + (stride - 1)) w → u ≤ w → w < u + run → (v : ℕ) × Same′ rule (Has (wide + (stride - 1))) (λ v. v - back0) (λ v. v - back1) (Spaced stride (k - (back0 - back1))) (λ i. a + i) (λ i. a + i + (back0 - back1)) u (u + run) 0 (k - (back0 - back1)) w v
+              found : (w : ℕ) → Has (wide + (stride - 1)) w → u ≤ w → w < u + run → (v : ℕ) × Found w v
               found w key x y =
                   let v : ℕ = w - u in
                   let vr : v < run = omega arith in
@@ -337,7 +348,7 @@ module _ {n wide run stride back0 back1 : ℕ} {b₀ : Buffers} (ok : Runs n wid
                     },
                   )
 
-              back : (v : ℕ) → Spaced stride (k - (back0 - back1)) v → v < k - (back0 - back1) → (w : ℕ) × Same rule (Has (wide + (stride - 1))) (λ v. v - back0) (λ v. v - back1) (Spaced stride (k - (back0 - back1))) (λ i. a + i) (λ i. a + i + (back0 - back1)) u (u + run) 0 (k - (back0 - back1)) v w
+              back : (v : ℕ) → Spaced stride (k - (back0 - back1)) v → v < k - (back0 - back1) → (w : ℕ) × Back v w
               back v key y =
                   let m : v < run - (stride - 1) = rw last-is at y in (
                     u + (stride - 1) + v,

@@ -29,6 +29,12 @@ const LONG: usize = 32;
 // The last number of a gate that needs no F.
 const QUICK: u32 = 4;
 
+// The first number of a gate that takes an angle: two pairs of those at a turn are more than the compiler joins,
+// and below this length their runs go key by key.
+const ROTATION: u32 = 3;
+
+const BRIEF: usize = 8;
+
 // Run by run where neighbouring keys or places allow it, and else key by key. The fixed bits are cut in two: the ones that they
 // end in give the stride, and the lowest bit of the rest the length of a run.
 fn sweep(
@@ -62,8 +68,14 @@ fn sweep(
     let run: usize = 1 << r;
     if stride == 1 {
         if run < LONG {
-            short(reals, imags, n, wide, run, back0, back1, code, angle);
-            return;
+            if code < ROTATION {
+                short(reals, imags, n, wide, run, back0, back1, code, angle);
+                return;
+            }
+            if run < BRIEF {
+                by_keys(reals, imags, n, fixed, back0, back1, rule, angle, matrix);
+                return;
+            }
         }
         dense(reals, imags, n, wide, run, back0, back1, code, angle);
         return;

@@ -1,6 +1,6 @@
 -- `uppers::on_uppers` meets its contract: judged, then turned block by block. Assumes nothing.
 use Prim.Native.Nat.{ℕ}
-use mathlib.Core.Path.{_≡_, sym, subst}
+use mathlib.Core.Path.{_≡_, subst}
 use borrow.Author.Needs.{needs}
 use Rattle.book.specs.Answers.{Buffers}
 use Rattle.book.specs.State.{onPairs}
