@@ -22,7 +22,9 @@ pub enum Next {
 }
 
 const HEADER: u8 = 0x21;
+
 const HEADER_LENGTH: u64 = 5;
+
 const HEADER_BYTES: usize = 8;
 
 // n is 1 to 11 in the program.

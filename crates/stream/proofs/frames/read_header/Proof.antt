@@ -63,10 +63,9 @@ cast-t13 c = search needs
 returns-6 : tie.Need-returns-6
 returns-6 c =
     let s = c .before .before .before .before .before .before .before .before .before .before .before .args .bytes .now in
-    let few = c .before .before .if5 .left in
-    (
+    let few = c .before .before .if5 .left in (
       good s _ (c .before .before .before .if4 .left) few (here (c .before .before .before .before .before))
-        (omega (arith, c .two-at3 .ensures .0, c .before .two-at2 .ensures .0, four-is s (c .before .before .before .before .before .before .before .before .before .if1 .left))),
+          (omega (arith, c .two-at3 .ensures .0, c .before .two-at2 .ensures .0, four-is s (c .before .before .before .before .before .before .before .before .before .if1 .left))),
       λ n session e. good-small _ _ n session few e,
     )
 

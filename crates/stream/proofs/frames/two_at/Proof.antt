@@ -30,8 +30,7 @@ add-result c = omega (arith, c .before .shared-slice-known .given (c .before .be
 
 returns : tie.Need-returns
 returns c =
-    let a = c .before .before .args in
-    (
+    let a = c .before .before .args in (
       sym (two-is (a .bytes .now) (a .at) (c .before .before .pre)),
       omega (arith, c .before .shared-slice-known .given (a .at), c .shared-slice-known2 .given (a .at + 1)),
     )

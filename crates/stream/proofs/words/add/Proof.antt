@@ -36,8 +36,7 @@ loop-less c = search needs
 loop-again : tie.Need-loop-again Inv-loop μ-loop
 loop-again c =
     let a = c .before .before .before .args in
-    let o = c .before .before .loop in
-    (
+    let o = c .before .before .loop in (
       omega arith,
       length-set (o .out) (a .at + o .i) _ ∙ o .inv .1,
       stored-step (a .words .now) (a .at) (o .out) (o .i) (omega arith) ∙ o .inv .2,
