@@ -1,0 +1,161 @@
+// The whole program: reads a header and frames from standard input, and prints the lines of document 01 to standard output. The input has
+// any size and comes in any pieces; one frame of it is kept. What is read and printed is proved in stream, and what a delivery does in sessions.
+ghost use Prim.Native.Nat.{_<_};
+
+mod frames;
+mod output;
+mod state;
+
+use frames::Taker;
+use frames::cut_short;
+use frames::take_chunk;
+use output::Output;
+use output::flush;
+use sessions::Session;
+use sessions::Started;
+use state::print_state;
+use stream::Header;
+
+// Only this line.
+fn bad_header() {
+    let mut line = [0u8; 128];
+    let n = stream::bad_header_line(&mut line);
+    io::write_all(libc::STDOUT_FILENO, &line[..n]);
+}
+
+// Whether more is to be read: not behind the end of the input, a cut, or the end of the output.
+fn goes_on(got: usize, cut: bool, open: bool) -> bool {
+    if got == 0 {
+        return false;
+    }
+    if cut {
+        return false;
+    }
+    open
+}
+
+// What has been answered is written out before more is waited for.
+fn flushed(taker: Taker, got: usize, out: &[u8]) -> Taker {
+    let session = taker.session;
+    let output = flush(
+        out,
+        Output {
+            at: taker.at,
+            open: taker.open,
+        },
+    );
+    let more = goes_on(got, taker.cut, output.open);
+    Taker {
+        session,
+        index: taker.index,
+        have: taker.have,
+        passing: taker.passing,
+        cut: taker.cut,
+        more,
+        at: output.at,
+        open: output.open,
+    }
+}
+
+// One piece of the input, as long as it comes.
+fn take_piece(
+    start: Taker,
+    chunk: &mut [u8],
+    frame: &mut [u8],
+    reals: &mut [f64],
+    imags: &mut [f64],
+    out: &mut [u8],
+) -> Taker {
+    let read = libc::read(libc::STDIN_FILENO, chunk);
+    let got = io::count(read, chunk);
+    let taken = take_chunk(&chunk[..got], start, frame, reals, imags, out);
+    flushed(taken, got, out)
+}
+
+// The turns that are left.
+fn left(turns: u64, more: bool) -> u64
+    requires { ⌜ 0 < turns ⌝ }
+    ensures { λ r. ⌜ r < turns ⌝ }
+{
+    if more { turns - 1 } else { 0 }
+}
+
+// Reads to the end. Nothing says that an input ends: the turns are counted down from a number that no run uses up.
+fn take_all(
+    start: Taker,
+    frame: &mut [u8],
+    reals: &mut [f64],
+    imags: &mut [f64],
+    out: &mut [u8],
+) -> Taker {
+    let mut space = io::large_buffer();
+    let chunk: &mut [u8] = &mut space;
+    let mut taker = start;
+    let mut turns = u64::MAX;
+    while 0 < turns {
+        taker = take_piece(taker, chunk, frame, reals, imags, out);
+        turns = left(turns, taker.more);
+    }
+    taker
+}
+
+// The frames, and then the state behind them.
+fn run_session(session: Session, reals: &mut [f64], imags: &mut [f64]) {
+    let mut frame = [0u8; 97];
+    let mut out = io::large_buffer();
+    let start = Taker {
+        session,
+        index: 0,
+        have: 0,
+        passing: 0,
+        cut: false,
+        more: true,
+        at: 0,
+        open: true,
+    };
+    let end = take_all(start, &mut frame, reals, imags, &mut out);
+    let cut = cut_short(end, &frame);
+    let last = end.session;
+    let output = Output {
+        at: end.at,
+        open: end.open,
+    };
+    print_state(cut, last.count, reals, imags, &mut out, output);
+}
+
+// The places that a state of n qubits has.
+fn run_places(n: u32, session: Session, reals: &mut [f64], imags: &mut [f64]) {
+    if 11 < n {
+        return;
+    }
+    let size: usize = 1 << n;
+    if reals.len() < size {
+        return;
+    }
+    if imags.len() < size {
+        return;
+    }
+    run_session(session, &mut reals[..size], &mut imags[..size]);
+}
+
+// From state real 1 at index 0.
+fn run_bench(n: u32, number: u32) {
+    let started = Session::start(n, number);
+    let Started::Fresh(session) = started else {
+        return;
+    };
+    let mut reals = [0.0; 2048];
+    let mut imags = [0.0; 2048];
+    reals[0] = 1.0;
+    run_places(n, session, &mut reals, &mut imags);
+}
+
+pub fn run() {
+    let mut head = [0u8; 8];
+    let got = io::read_full(libc::STDIN_FILENO, &mut head);
+    let header = stream::read_header(&head[..got]);
+    match header {
+        Header::Good(n, number) => run_bench(n, number),
+        Header::Bad => bad_header(),
+    }
+}

@@ -1,0 +1,4 @@
+// The gate bench: reads a header and frames from standard input, and prints what each delivery answers and the state after them.
+fn main() {
+    bench_run::run();
+}

@@ -1,0 +1,52 @@
+-- `stream::words::add_bits` stores the sixteen digits of the bits. Assumes nothing.
+use Prim.Native.Nat.{_≤_}
+use native.Mathlib.Omega.{arith}
+use mathlib.Core.Path.{_∙_}
+use Rattle.stream.specs.Lines.{bits}
+use Rattle.stream.proofs.Writing.{these, few, bits-is}
+use borrow.Author.Needs.{needs}
+use Rattle.stream.proofs.words.add_bits.Statement.{statement}
+use Rattle.stream.proofs.words.add_bits.Tie as tie
+
+-- the bits of an f64 have at most 16 digits
+at-most : (c : tie.After-hex) → c .hex .result ≤ 16
+at-most c = few 16 16 16 (c .hex .result) (c .before .before .bits-of .result) (omega arith) (omega arith) (omega arith) (c .hex .ensures .1 .0 .2)
+
+bits-of-requires : tie.Need-bits-of-requires
+bits-of-requires c κs = search needs
+
+hex-requires : tie.Need-hex-requires
+hex-requires c κs = search needs
+
+array-share-prefix-digits : tie.Need-array-share-prefix-digits
+array-share-prefix-digits c = search needs
+
+slice-aggregate-add : tie.Need-slice-aggregate-add
+slice-aggregate-add c = search needs
+
+add-requires : tie.Need-add-requires
+add-requires c κs = omega (arith, at-most (c .before .before), c .before .before .hex .ensures .0 .1)
+
+same-length : tie.Need-same-length
+same-length c = search needs
+
+returns : tie.Need-returns
+returns c =
+    let x = c .before .before .before .before .before .before .before .before .before .args .x in
+    let b = c .before .before .before .before .before .before .before .bits-of in
+    let d = c .before .before .before .before .before .hex in
+    let most = at-most (c .before .before .before .before .before) in
+    let is = bits-is (d .result) (b .result) x most (d .ensures .1 .0 .0) (b .ensures) in
+    these (bits x) 16 (d .ensures .1 .1 ∙ is) (omega (arith, most, d .ensures .0 .1)) (c .before .before .add .ensures)
+
+pub add-bits-spec : {M : Type 1} → statement M
+add-bits-spec =
+    tie.close
+    (tie.spec
+    bits-of-requires
+    hex-requires
+    array-share-prefix-digits
+    slice-aggregate-add
+    add-requires
+    same-length
+    returns)

@@ -1,0 +1,46 @@
+-- `stream::words::add_number` stores the fewest digits, which are those of the definition. Assumes nothing.
+use Prim.Native.Nat.{_≤_}
+use native.Mathlib.Omega.{arith}
+use mathlib.Core.Path.{_∙_}
+use Rattle.stream.specs.Lines.{decimal}
+use Rattle.stream.proofs.Writing.{these, few, decimal-is}
+use borrow.Author.Needs.{needs}
+use Rattle.stream.proofs.words.add_number.Statement.{statement}
+use Rattle.stream.proofs.words.add_number.Tie as tie
+
+-- a u64 has at most 20 digits
+at-most : (c : tie.After-decimal) → c .decimal .result ≤ 20
+at-most c = few 10 1 20 (c .decimal .result) (c .before .before .before .args .n) (omega arith) (omega arith) (omega arith) (c .decimal .ensures .1 .0 .2)
+
+decimal-requires : tie.Need-decimal-requires
+decimal-requires c κs = search needs
+
+array-share-prefix-digits : tie.Need-array-share-prefix-digits
+array-share-prefix-digits c = search needs
+
+slice-aggregate-add : tie.Need-slice-aggregate-add
+slice-aggregate-add c = search needs
+
+add-requires : tie.Need-add-requires
+add-requires c κs = omega (arith, at-most (c .before .before), c .before .before .decimal .ensures .0 .1)
+
+same-length : tie.Need-same-length
+same-length c = search needs
+
+returns : tie.Need-returns
+returns c =
+    let n = c .before .before .before .before .before .before .before .before .args .n in
+    let d = c .before .before .before .before .before .decimal in
+    let most = at-most (c .before .before .before .before .before) in
+    these (decimal n) 20 (d .ensures .1 .1 ∙ decimal-is (d .result) n most (d .ensures .1 .0)) (omega (arith, most, d .ensures .0 .1)) (c .before .before .add .ensures)
+
+pub add-number-spec : {M : Type 1} → statement M
+add-number-spec =
+    tie.close
+    (tie.spec
+    decimal-requires
+    array-share-prefix-digits
+    slice-aggregate-add
+    add-requires
+    same-length
+    returns)

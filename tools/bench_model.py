@@ -1,0 +1,569 @@
+#!/usr/bin/env python3
+"""Another program for what gate_bench prints, written from document 01 alone: exact whole numbers for F and the root, float64 for + - * /.
+
+  bench_model.py run < INPUT > OUTPUT        what the program must print
+  bench_model.py make NAME [SEED] > INPUT    an input; `bench_model.py names` lists the names
+  bench_model.py store DIR [SEED]            each input and its output, as DIR/crates/NAME/stdin and stdout
+"""
+import math, os, random, struct, sys
+
+MOST_QUBITS, MOST_BYTES, FULL = 11, 94, 65535
+H_BITS = 0x3FE6A09E667F3BCD
+NAN = float('nan')
+
+
+def of_bits(b):
+    return struct.unpack('>d', struct.pack('>Q', b))[0]
+
+
+def bits(x):
+    return 0x7FF8000000000000 if x != x else struct.unpack('>Q', struct.pack('>d', x))[0]
+
+
+# ---- F and the root, over whole numbers
+
+def parts(x):
+    """A finite float as (whole number, power of two)."""
+    b = bits(x)
+    field, fraction = b >> 52 & 0x7FF, b & (1 << 52) - 1
+    m, e = (fraction, -1074) if field == 0 else (fraction + (1 << 52), field - 1075)
+    return (-m if b >> 63 else m), e
+
+
+def nearest(m, e, sticky=False):
+    """The f64 nearest to m * 2^e (m > 0), ties to even; sticky: the value lies a little above m * 2^e."""
+    m, e = m * 4 + (1 if sticky else 0), e - 2
+    drop = max(m.bit_length() - 53, -1074 - e)
+    if drop > 0:
+        kept, rest, half = m >> drop, m & (1 << drop) - 1, 1 << drop - 1
+        if rest > half or rest == half and kept & 1:
+            kept += 1
+        m, e = kept, e + drop
+    if m == 0:
+        return 0.0
+    while e > -1074 and m.bit_length() < 53:
+        m, e = m << 1, e - 1
+    if m.bit_length() > 53:
+        m, e = m >> 1, e + 1
+    if e > 971:
+        return math.inf
+    return of_bits(m if m < 1 << 52 else (e + 1075 << 52) + m - (1 << 52))
+
+
+def negative(x):
+    return math.copysign(1.0, x) < 0
+
+
+def F(x, y, z):
+    if x != x or y != y or z != z:
+        return NAN
+    if math.isinf(x) or math.isinf(y):
+        if x == 0 or y == 0:
+            return NAN
+        p = -math.inf if negative(x) != negative(y) else math.inf
+        return NAN if math.isinf(z) and z != p else p
+    if math.isinf(z):
+        return z
+    (mx, ex), (my, ey), (mz, ez) = parts(x), parts(y), parts(z)
+    mp, ep = mx * my, ex + ey
+    low = min(ep, ez)
+    total = (mp << ep - low) + (mz << ez - low)
+    if total == 0:
+        if mp == 0 and mz == 0 and (negative(x) != negative(y)) == negative(z):
+            return -0.0 if negative(z) else 0.0
+        return 0.0
+    return nearest(total, low) if total > 0 else -nearest(-total, low)
+
+
+def root(x):
+    if x != x or x < 0:
+        return NAN
+    if x == 0 or math.isinf(x):
+        return x
+    m, e = parts(x)
+    shift = 120 + (e & 1)
+    m, e = m << shift, e - shift
+    r = math.isqrt(m)
+    return nearest(r, e // 2, r * r != m)
+
+
+# ---- gates, place by place
+
+def pairs(n, target, mask):
+    for s0 in range(1 << n):
+        if not s0 >> target & 1 and s0 & mask == mask:
+            yield s0, s0 + (1 << target)
+
+
+def x_rule(g, a, b, c, d):
+    return c, d, a, b
+
+
+def y_rule(g, a, b, c, d):
+    return d, -c, -b, a
+
+
+def z_rule(g, a, b, c, d):
+    return a, b, -c, -d
+
+
+def h_rule(g, a, b, c, d):
+    h = of_bits(H_BITS)
+    a1, b1, c1, d1 = h * a, h * b, h * c, h * d
+    return a1 + c1, b1 + d1, a1 - c1, b1 - d1
+
+
+def p_rule(g, a, b, c, d):
+    k, s = g
+    return a, b, F(c, k, (-d) * s), F(d, k, c * s)
+
+
+def rx_rule(g, a, b, c, d):
+    k, s = g
+    w = -s
+    return a * k - d * w, b * k + c * w, c * k - b * w, d * k + a * w
+
+
+def ry_rule(g, a, b, c, d):
+    k, s = g
+    return a * k - c * s, b * k - d * s, a * s + c * k, b * s + d * k
+
+
+def rz_rule(g, a, b, c, d):
+    k, s = g
+
+    def times(x, y, re, im):
+        return F(x, re, (-y) * im), F(x, im, y * re)
+    return times(a, b, k, -s) + times(c, d, k, s)
+
+
+def u_rule(g, a, b, c, d):
+    ct, st, cl, sl, cpl, spl, cp, sp = g
+    p, q, r, u, v, e, f = ct, (-cl) * st, (-sl) * st, cp * st, sp * st, cpl * ct, spl * ct
+    return (F(p, a, F(q, c, (-r) * d)), F(p, b, F(q, d, r * c)),
+            F(u, a, F(-v, b, F(e, c, (-f) * d))), F(u, b, F(v, a, F(e, d, f * c))))
+
+
+ANY = 99
+RULES = {1: (h_rule, 1), 2: (x_rule, ANY), 3: (y_rule, 1), 4: (z_rule, 0), 5: (p_rule, ANY), 6: (rx_rule, ANY), 7: (ry_rule, ANY), 8: (rz_rule, 1), 9: (u_rule, 1)}
+
+
+class Bench:
+    def __init__(self, n, session):
+        self.n, self.session, self.count = n, session, 0
+        self.re = [1.0] + [0.0] * ((1 << n) - 1)
+        self.im = [0.0] * (1 << n)
+
+    def each_pair(self, rule, g, target, mask):
+        for i, j in pairs(self.n, target, mask):
+            self.re[i], self.im[i], self.re[j], self.im[j] = rule(g, self.re[i], self.im[i], self.re[j], self.im[j])
+
+    def act(self, code, target, mask, given):
+        """(refusal, None), or (0, the value or None)."""
+        n = self.n
+        if target >= n or mask >> n or code == 10 and given >= n:
+            return 3, None
+        if code <= 9:
+            rule, most = RULES[code]
+            if mask >> target & 1:
+                return 4, None
+            if bin(mask).count('1') > most:
+                return 5, None
+        if code in (5, 6, 7, 8, 9, 12) and not all(math.isfinite(x) for x in given):
+            return 6, None
+        if code <= 9:
+            self.each_pair(rule, given, target, mask)
+            return 0, None
+        if code == 10:
+            for i in range(1 << n):
+                if not i >> target & 1 and i >> given & 1:
+                    j = i + (1 << target) - (1 << given)
+                    self.re[i], self.im[i], self.re[j], self.im[j] = self.re[j], self.im[j], self.re[i], self.im[i]
+            return 0, None
+        if code == 12:
+            prob, draw = given
+            if draw <= prob:
+                self.each_pair(x_rule, None, target, 0)
+            return 0, int(draw <= prob)
+        outcome, reset = given
+        if outcome > 1 or reset > 1:
+            return 6, None
+        p0 = 0.0
+        for i in range(1 << n):
+            if not i >> target & 1:
+                p0 += self.re[i] * self.re[i] + self.im[i] * self.im[i]
+        p = 1.0 - p0 if outcome else p0
+        if not math.isfinite(p) or p <= 0:
+            return 7, None
+        r = 1.0 / root(p)
+        for i in range(1 << n):
+            if i >> target & 1 == outcome:
+                self.re[i], self.im[i] = self.re[i] * r, self.im[i] * r
+            else:
+                self.re[i], self.im[i] = 0.0, 0.0
+        if outcome and reset:
+            self.each_pair(x_rule, None, target, 0)
+        return 0, outcome
+
+    def deliver(self, record):
+        it = read(record)
+        if it is None:
+            return 'REFUSED 8'
+        session, number, code, target, mask, given = it
+        if session != self.session:
+            return 'REFUSED 9'
+        if number == FULL:
+            return 'REFUSED 11'
+        if number < self.count:
+            return 'AGAIN'
+        if number > self.count:
+            return 'REFUSED 10'
+        refusal, value = self.act(code, target, mask, given)
+        if refusal:
+            return 'REFUSED %d' % refusal
+        self.count += 1
+        return 'TAKEN' if value is None else 'TAKEN VALUE %d' % value
+
+
+# ---- records
+
+def read(record):
+    """(session, number, code, target, mask, the gate's own numbers), or None."""
+    at = [0]
+
+    def field(tag, size):
+        i = at[0]
+        if len(record) < i + 3 + size or record[i] != tag or record[i + 1] << 8 | record[i + 2] != size:
+            raise ValueError
+        at[0] = i + 3 + size
+        return record[i + 3:at[0]]
+
+    def floats(tag, k):
+        return struct.unpack('>%dd' % k, field(tag, 8 * k))
+    try:
+        session, = struct.unpack('>I', field(1, 4))
+        number, = struct.unpack('>H', field(2, 2))
+        code, target, mask, given = field(3, 1)[0], field(4, 1)[0], 0, None
+        if not 1 <= code <= 12:
+            return None
+        if code <= 9:
+            mask, = struct.unpack('>I', field(5, 4))
+        if 5 <= code <= 8:
+            given = floats(7, 2)
+        if code == 9:
+            given = floats(8, 8)
+        if code == 10:
+            given = field(6, 1)[0]
+        if code == 11:
+            given = tuple(field(9, 2))
+        if code == 12:
+            given = floats(10, 2)
+    except ValueError:
+        return None
+    return (session, number, code, target, mask, given) if at[0] == len(record) else None
+
+
+def field(tag, contents):
+    return struct.pack('>BH', tag, len(contents)) + contents
+
+
+def write(session, number, code, target, mask=0, given=None):
+    s = field(1, struct.pack('>I', session)) + field(2, struct.pack('>H', number)) + field(3, bytes([code])) + field(4, bytes([target]))
+    if code <= 9:
+        s += field(5, struct.pack('>I', mask))
+    if 5 <= code <= 8:
+        s += field(7, struct.pack('>2d', *given))
+    if code == 9:
+        s += field(8, struct.pack('>8d', *given))
+    if code == 10:
+        s += field(6, bytes([given]))
+    if code == 11:
+        s += field(9, bytes(given))
+    if code == 12:
+        s += field(10, struct.pack('>2d', *given))
+    return s
+
+
+def frame(record):
+    return struct.pack('>BH', 0x20, len(record)) + record
+
+
+def header(n, session):
+    return struct.pack('>BHBI', 0x21, 5, n, session)
+
+
+# ---- the program
+
+def run(data, write_out):
+    if len(data) < 8 or data[:3] != b'\x21\x00\x05' or not 1 <= data[3] <= MOST_QUBITS:
+        write_out('BAD HEADER\n')
+        return
+    bench = Bench(data[3], struct.unpack('>I', data[4:8])[0])
+    at, index = 8, 0
+    while at < len(data):
+        size = data[at + 1] << 8 | data[at + 2] if at + 3 <= len(data) else 0
+        if data[at] != 0x20 or len(data) < at + 3 + size:
+            write_out('CUT\n')
+            break
+        says = 'REFUSED 8' if size > MOST_BYTES else bench.deliver(data[at + 3:at + 3 + size])
+        word, _, value = says.partition(' VALUE ')
+        write_out('D %d %s COUNT %d%s\n' % (index, word, bench.count, ' VALUE ' + value if value else ''))
+        at, index = at + 3 + size, index + 1
+    for i in range(1 << bench.n):
+        write_out('A %d %016x %016x\n' % (i, bits(bench.re[i]), bits(bench.im[i])))
+    write_out('END %d\n' % bench.count)
+
+
+# ---- inputs
+
+class Maker:
+    """Frames of one session, with the number that is next kept by a bench of its own."""
+
+    def __init__(self, n, session, seed):
+        self.random, self.bench, self.data, self.n = random.Random(seed), Bench(n, session), header(n, session), n
+
+    def raw(self, record):
+        self.data += frame(record)
+        if len(record) <= MOST_BYTES:
+            self.bench.deliver(record)
+
+    def next(self, code, target, mask=0, given=None):
+        """The record that is next by number."""
+        self.raw(write(self.bench.session, self.bench.count, code, target, mask, given))
+
+    def angle(self):
+        t = self.random.uniform(-4, 4)
+        return math.cos(t), math.sin(t)
+
+    def given(self, code):
+        if 5 <= code <= 8:
+            return self.angle()
+        if code == 9:
+            return self.angle() + self.angle() + self.angle() + self.angle()
+        if code == 10:
+            return self.random.randrange(self.n)
+        if code == 11:
+            return self.random.randrange(2), self.random.randrange(2)
+        if code == 12:
+            return self.random.random(), self.random.random()
+
+    def mask(self, code, target, controls):
+        others = [q for q in range(self.n) if q != target]
+        most = min(RULES[code][1] if code <= 9 else 0, len(others))
+        return sum(1 << q for q in self.random.sample(others, min(most, controls)))
+
+    def any(self, code, controls):
+        target = self.random.randrange(self.n)
+        self.next(code, target, self.mask(code, target, controls), self.given(code))
+
+    def spread(self):
+        """Every amplitude takes part."""
+        for q in range(self.n):
+            self.next(1, q)
+            self.next(9, q, 0, self.given(9))
+
+
+def one_x(n=1, session=7):
+    return header(n, session) + frame(write(session, 0, 2, 0))
+
+
+def make_gates(n, rounds):
+    def made(seed):
+        m = Maker(n, 0x01020304, seed)
+        m.spread()
+        for controls in range(rounds):
+            for code in list(range(1, 11)) + [12]:
+                m.any(code, controls)
+        m.next(12, 0, 0, (0.5, 0.5))
+        m.next(12, 0, 0, (0.5, 0.75))
+        m.next(12, 0, 0, (0.0, -0.0))
+        for outcome in (0, 1):
+            for reset in (0, 1):
+                m.spread()
+                m.next(11, m.random.randrange(n), 0, (outcome, reset))
+        return m.data
+    return made
+
+
+def make_specials(seed):
+    """Numbers so large and so small that amplitudes become infinite, NaN, subnormal and negative zero."""
+    m = Maker(3, 9, seed)
+    huge, tiny = of_bits(0x7FEFFFFFFFFFFFFF), of_bits(1)
+    m.spread()
+    for code in (5, 6, 7, 8):
+        m.next(code, 0, 0, (tiny, huge))
+        m.next(code, 1, 4 if code != 8 else 0, (huge, -huge))
+    for q in range(3):
+        m.next(9, q, 0, (huge, tiny, huge, -1.0, huge, huge, -0.0, huge))
+        m.next(1, q)
+        m.next(3, q)
+        m.next(4, q)
+    m.next(2, 0, 6)
+    m.next(10, 0, 0, 2)
+    m.next(11, 0, 0, (0, 0))
+    m.next(11, 0, 0, (1, 1))
+    m.next(12, 1, 0, (1.0, 0.0))
+    return m.data
+
+
+def make_small(seed):
+    """Subnormal amplitudes and negative zeros, and a measurement of a tiny probability."""
+    m = Maker(2, 0xFFFFFFFF, seed)
+    least, small = of_bits(1), of_bits(0x1FF0000000000000)
+    m.next(1, 0)
+    m.next(7, 1, 0, (small, -small))
+    m.next(5, 1, 1, (least, 0.75))
+    m.next(8, 0, 0, (0.75, -0.5))
+    m.next(11, 1, 0, (0, 0))
+    m.next(6, 0, 2, (0.6, 0.8))
+    m.next(7, 0, 0, (least, -0.0))
+    m.next(9, 1, 0, (0.5, 0.5, -0.5, 0.5, 0.75, 0.25, -0.0, 1.0))
+    m.next(3, 0, 2)
+    return m.data
+
+
+def make_refusals(seed):
+    m = Maker(3, 7, seed)
+    own, inf = 7, math.inf
+    m.next(1, 0)
+    at = m.bench.count
+    for code in range(1, 13):
+        good = m.given(code)
+        if code == 11:
+            good = (0, 0)
+        for target in (3, 31, 32, 255):
+            m.raw(write(own, at, code, target, 0, good))
+        if code <= 9:
+            for mask in (8, 0x80000000, 9):
+                m.raw(write(own, at, code, 0, mask, good))
+            m.raw(write(own, at, code, 1, 2, good))
+            m.raw(write(own, at, code, 1, 7, good))
+            m.raw(write(own, at, code, 3, 8, good))
+            if RULES[code][1] < 2:
+                m.raw(write(own, at, code, 1, 5, good))
+            if RULES[code][1] < 1:
+                m.raw(write(own, at, code, 1, 1, good))
+        if code in (5, 6, 7, 8, 9, 12):
+            for bad in (inf, -inf, NAN, of_bits(0x7FF0000000000001), of_bits(0xFFF8000000000000)):
+                for i in range(len(good)):
+                    m.raw(write(own, at, code, 0, 0, good[:i] + (bad,) + good[i + 1:]))
+        if code == 10:
+            m.raw(write(own, at, code, 0, 0, 3))
+            m.raw(write(own, at, code, 3, 0, 0))
+        if code == 11:
+            for pair in ((2, 0), (0, 2), (255, 255), (1, 0), (1, 1)):
+                m.raw(write(own, at, code, 1, 0, pair))
+    for number in (0, at, at + 1, 65534, 65535):
+        for session in (own, 8, 0x07000000):
+            m.raw(write(session, number, 4, 2, 1))
+    m.raw(write(own, at, 0, 0))
+    m.raw(write(own, at, 13, 0))
+    m.raw(write(own, at, 2, 0) + b'\x00')
+    m.raw(b'\x01')
+    m.next(2, 2)
+    return m.data
+
+
+def make_eleven(seed):
+    m = Maker(11, 11, seed)
+    m.next(1, 10)
+    m.next(2, 0, 1 << 10)
+    m.next(7, 5, 0, m.angle())
+    m.next(9, 3, 1 << 5, m.given(9))
+    m.next(10, 2, 0, 9)
+    m.next(2, 4, 0x7EF)
+    m.next(12, 8, 0, (0.5, 0.25))
+    m.next(2, 11)
+    m.next(2, 0, 1 << 11)
+    m.next(11, 10, 0, (1, 1))
+    return m.data
+
+
+def make_overlong(seed):
+    good = write(7, 0, 2, 0)
+    return (header(1, 7) + frame(b'') + frame(good + bytes(95 - len(good))) + frame(bytes(94)) + frame(good) + frame(bytes(65535)) + frame(b'\x20' * 300)
+            + frame(write(7, 1, 2, 0)) + frame(bytes(96)) + frame(b''))
+
+
+def make_many(seed):
+    """All 65,535 records, and some more."""
+    s = [header(2, 5)]
+    for k in range(FULL):
+        s.append(frame(write(5, k, 10, 0, 0, 1)) if k else frame(write(5, 0, 2, 1)))
+    for k in range(465):
+        s.append(frame(write(5, (0, 65534, 65535)[k % 3], 10, 0, 0, 1)))
+    return b''.join(s)
+
+
+def make_deliveries(seed):
+    """Records of every code; before each, copies of it damaged at every byte; repeats; early ones; other sessions."""
+    m = Maker(4, 0x0A0B0C0D, seed)
+    r, own, sent = m.random, 0x0A0B0C0D, []
+    m.spread()
+    for code in list(range(1, 13)) + [r.randrange(1, 13) for _ in range(12)]:
+        target = r.randrange(4)
+        good = write(own, m.bench.count, code, target, m.mask(code, target, r.randrange(3)), m.given(code))
+        for i in range(len(good)):
+            m.raw(good[:i] + bytes([good[i] ^ 1 << r.randrange(8)]) + good[i + 1:])
+            if m.bench.count != read(good)[1]:
+                good = write(own, m.bench.count, *read(good)[2:])
+        for cut in (1, 4, len(good) // 2, len(good) - 1):
+            m.raw(good[:cut])
+        m.raw(write(own, m.bench.count + 1, *read(good)[2:]))
+        m.raw(good)
+        sent.append(good)
+        for _ in range(3):
+            m.raw(r.choice(sent))
+    return m.data
+
+
+MAKE = {
+    'gate_bench': lambda seed: header(1, 7) + b''.join(frame(write(7, k, 2, 0)) for k in (0, 0, 2)),
+    'run_empty': lambda seed: b'',
+    'run_header_short': lambda seed: header(1, 7)[:7],
+    'run_header_tag': lambda seed: b'\x20' + one_x()[1:],
+    'run_header_length': lambda seed: b'\x21\x00\x04' + one_x()[3:],
+    'run_header_n_0': lambda seed: one_x(0),
+    'run_header_n_12': lambda seed: one_x(12),
+    'run_cut_tag': lambda seed: one_x(2) + b'\n',
+    'run_cut_length': lambda seed: one_x(2) + b'\x20\x00',
+    'run_cut_record': lambda seed: one_x(2) + frame(write(7, 1, 2, 1))[:-1],
+    'run_cut_overlong': lambda seed: one_x(2) + frame(bytes(65535))[:-1],
+    'run_overlong': make_overlong,
+    'run_gates_1': make_gates(1, 1),
+    'run_gates_3': make_gates(3, 3),
+    'run_gates_5': make_gates(5, 5),
+    'run_specials': make_specials,
+    'run_small': make_small,
+    'run_refusals': make_refusals,
+    'run_eleven': make_eleven,
+    'run_many': make_many,
+    'run_deliveries': make_deliveries,
+}
+SEED = 20261
+
+
+def main():
+    word = sys.argv[1] if len(sys.argv) > 1 else ''
+    if word == 'run':
+        run(sys.stdin.buffer.read(), sys.stdout.write)
+    elif word == 'names':
+        print('\n'.join(MAKE))
+    elif word == 'make':
+        sys.stdout.buffer.write(MAKE[sys.argv[2]](int(sys.argv[3]) if len(sys.argv) > 3 else SEED))
+    elif word == 'store':
+        for name, make in MAKE.items():
+            data, out = make(int(sys.argv[3]) if len(sys.argv) > 3 else SEED), []
+            run(data, out.append)
+            folder = os.path.join(sys.argv[2], 'crates', name)
+            os.makedirs(folder, exist_ok=True)
+            with open(os.path.join(folder, 'stdin'), 'wb') as f:
+                f.write(data)
+            with open(os.path.join(folder, 'stdout'), 'w') as f:
+                f.write(''.join(out))
+    else:
+        print(__doc__)
+
+
+if __name__ == '__main__':
+    main()
