@@ -370,55 +370,54 @@ def one_x(n=1, session=7):
 def make_gates(n, rounds):
     def made(seed):
         m = Maker(n, 0x01020304, seed)
+        for outcome in (0, 1):
+            for reset in (0, 1):
+                m.next(1, 0)
+                m.next(11, 0, 0, (outcome, reset))
+                m.next(1, n - 1)
+                m.next(7, n - 1, 0, m.angle())
+                m.next(11, n - 1, 0, (outcome, reset))
+        m.next(12, 0, 0, (0.5, 0.5))
+        m.next(12, 0, 0, (0.5, 0.75))
+        m.next(12, 0, 0, (0.0, -0.0))
         m.spread()
         for controls in range(rounds):
             for code in list(range(1, 11)) + [12]:
                 m.any(code, controls)
-        m.next(12, 0, 0, (0.5, 0.5))
-        m.next(12, 0, 0, (0.5, 0.75))
-        m.next(12, 0, 0, (0.0, -0.0))
-        for outcome in (0, 1):
-            for reset in (0, 1):
-                m.spread()
-                m.next(11, m.random.randrange(n), 0, (outcome, reset))
         return m.data
     return made
 
 
 def make_specials(seed):
-    """Numbers so large and so small that amplitudes become infinite, NaN, subnormal and negative zero."""
-    m = Maker(3, 9, seed)
-    huge, tiny = of_bits(0x7FEFFFFFFFFFFFFF), of_bits(1)
-    m.spread()
-    for code in (5, 6, 7, 8):
-        m.next(code, 0, 0, (tiny, huge))
-        m.next(code, 1, 4 if code != 8 else 0, (huge, -huge))
-    for q in range(3):
-        m.next(9, q, 0, (huge, tiny, huge, -1.0, huge, huge, -0.0, huge))
+    """Amplitudes that are infinite, NaN, subnormal and negative zero, under every gate; measured while the chosen half has them."""
+    m = Maker(4, 0xFFFFFFFF, seed)
+    huge, least, small = of_bits(0x7FEFFFFFFFFFFFFF), of_bits(1), of_bits(0x0010000000000000)
+    for q in range(4):
         m.next(1, q)
-        m.next(3, q)
-        m.next(4, q)
-    m.next(2, 0, 6)
-    m.next(10, 0, 0, 2)
-    m.next(11, 0, 0, (0, 0))
-    m.next(11, 0, 0, (1, 1))
+    for place, k in ((15, huge), (15, huge), (13, -huge), (13, huge), (15, huge), (14, small), (12, least), (11, huge)):
+        target = next(q for q in range(4) if place >> q & 1)
+        m.next(5, target, place - (1 << target), (k, 0.0))
+    m.next(11, 3, 0, (1, 0))
+    m.next(11, 3, 0, (0, 0))
+    m.next(2, 3, 4)
+    m.next(1, 0, 8)
+    m.next(6, 1, 8, (0.75, 0.5))
+    m.next(7, 0, 8, (-0.0, -1.0))
+    m.next(5, 1, 8, (small, -small))
+    m.next(8, 1, 8, (0.75, -0.5))
+    m.next(9, 1, 8, (0.5, 0.5, -0.5, 0.5, 0.75, 0.25, -0.0, 1.0))
+    m.next(9, 0, 4, (huge, huge, huge, -1.0, 2.0, huge, -0.0, huge))
+    m.next(6, 0, 6, (0.75, 0.5))
+    m.next(3, 2, 1)
+    m.next(4, 0)
+    m.next(10, 1, 0, 3)
     m.next(12, 1, 0, (1.0, 0.0))
-    return m.data
-
-
-def make_small(seed):
-    """Subnormal amplitudes and negative zeros, and a measurement of a tiny probability."""
-    m = Maker(2, 0xFFFFFFFF, seed)
-    least, small = of_bits(1), of_bits(0x1FF0000000000000)
-    m.next(1, 0)
-    m.next(7, 1, 0, (small, -small))
-    m.next(5, 1, 1, (least, 0.75))
-    m.next(8, 0, 0, (0.75, -0.5))
-    m.next(11, 1, 0, (0, 0))
-    m.next(6, 0, 2, (0.6, 0.8))
-    m.next(7, 0, 0, (least, -0.0))
-    m.next(9, 1, 0, (0.5, 0.5, -0.5, 0.5, 0.75, 0.25, -0.0, 1.0))
-    m.next(3, 0, 2)
+    m.next(11, 2, 0, (0, 0))
+    m.next(11, 2, 0, (1, 1))
+    m.next(5, 2, 1, (huge, 0.0))
+    m.next(5, 3, 0, (small, 0.0))
+    m.next(5, 3, 0, (small, 0.0))
+    m.next(4, 3)
     return m.data
 
 
@@ -531,10 +530,8 @@ MAKE = {
     'run_cut_overlong': lambda seed: one_x(2) + frame(bytes(65535))[:-1],
     'run_overlong': make_overlong,
     'run_gates_1': make_gates(1, 1),
-    'run_gates_3': make_gates(3, 3),
     'run_gates_5': make_gates(5, 5),
     'run_specials': make_specials,
-    'run_small': make_small,
     'run_refusals': make_refusals,
     'run_eleven': make_eleven,
     'run_many': make_many,
