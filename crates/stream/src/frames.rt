@@ -21,6 +21,7 @@ pub enum Next {
     More,
 }
 
+// 21 0005, and what has that length.
 const HEADER: u8 = 0x21;
 
 const HEADER_LENGTH: u64 = 5;
@@ -55,7 +56,8 @@ pub fn read_header(bytes: &[u8]) -> Header
     if bytes[0] != HEADER {
         return Header::Bad;
     }
-    if two_at(bytes, 1) != HEADER_LENGTH {
+    let length = two_at(bytes, 1);
+    if length != HEADER_LENGTH {
         return Header::Bad;
     }
     let n = bytes[3];
@@ -65,8 +67,10 @@ pub fn read_header(bytes: &[u8]) -> Header
     if MOST_QUBITS < n {
         return Header::Bad;
     }
-    let session = two_at(bytes, 4) * 65536 + two_at(bytes, 6);
-    Header::Good(n as u32, session as u32)
+    let qubits = n as u32;
+    let number = two_at(bytes, 4) * 65536 + two_at(bytes, 6);
+    let session = number as u32;
+    Header::Good(qubits, session)
 }
 
 fn unfinished(ended: bool) -> Next

@@ -45,20 +45,20 @@ returns-5 c = (too-many (c .before .before .before .before .before .before .befo
 two-at-requires-2 : tie.Need-two-at-requires-2
 two-at-requires-2 c κs = search needs
 
-mul-session : tie.Need-mul-session
-mul-session c = search needs
+mul-number : tie.Need-mul-number
+mul-number c = search needs
 
 two-at-requires-3 : tie.Need-two-at-requires-3
 two-at-requires-3 c κs = search needs
 
-add-session : tie.Need-add-session
-add-session c = search needs
+add-number : tie.Need-add-number
+add-number c = search needs
 
-cast-t12 : tie.Need-cast-t12
-cast-t12 c = search needs
+cast-qubits : tie.Need-cast-qubits
+cast-qubits c = search needs
 
-cast-t13 : tie.Need-cast-t13
-cast-t13 c = search needs
+cast-session : tie.Need-cast-session
+cast-session c = search needs
 
 returns-6 : tie.Need-returns-6
 returns-6 c =
@@ -81,10 +81,10 @@ read-header-spec =
     shared-slice-read-n
     returns-4
     returns-5
+    cast-qubits
     two-at-requires-2
-    mul-session
+    mul-number
     two-at-requires-3
-    add-session
-    cast-t12
-    cast-t13
+    add-number
+    cast-session
     returns-6)
