@@ -1,6 +1,6 @@
 -- Bytes that are read as a record with no NaN are the bytes that it is written as: each field that was listed is the field of what was read in it.
 -- So each record has one spelling. Assumes nothing.
-use Prim.Native.Nat.{ℕ, zero, suc, _+_, _*_}
+use Prim.Native.Nat.{ℕ, zero, suc, _*_}
 use native.Mathlib.Nat.{div-one}
 use native.Mathlib.Omega.{arith}
 use mathlib.Core.Path.{_≡_, refl, sym, ap, _∙_, subst}

@@ -1,5 +1,4 @@
 -- `records_vectors::run` is safe and ends: its turns are counted down. Assumes nothing.
-use Prim.Native.Nat.{_≤_, _-_}
 use mathlib.Core.Path.{_≡_}
 use lib.ListN.{length}
 use borrow.Author.Needs.{needs}

@@ -1,5 +1,5 @@
 -- `stream::frames::next_frame` tests in the order of the definition: nothing there, the tag, the length, the contents. Assumes nothing.
-use mathlib.Core.Path.{sym, ap, _∙_}
+use mathlib.Core.Path.{ap, _∙_}
 use lib.ListN.{length, getD}
 use borrow.Author.Tests.{eq-eqb, ne-eqb, lt-ltb, le-ltb}
 use Rattle.stream.specs.Frames.{sized}
