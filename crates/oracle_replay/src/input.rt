@@ -1,0 +1,59 @@
+// Floats from standard input: eight bytes each, the highest first.
+use libc::STDIN_FILENO;
+
+const WORD: usize = 8;
+
+// What stands above the lower 56 bits is lost when another byte comes behind.
+const ROOM: u64 = 0x0100_0000_0000_0000;
+
+// A float, and whether it was there.
+struct Number {
+    value: f64,
+    read: bool,
+}
+
+fn wide(b: u8) -> u64 {
+    b as u64
+}
+
+fn word(bytes: &[u8]) -> u64 {
+    let mut bits: u64 = 0;
+    let mut i: usize = 0;
+    while i < bytes.len() {
+        let b = wide(bytes[i]);
+        bits = bits % ROOM * 256 + b % 256;
+        i += 1;
+    }
+    bits
+}
+
+fn read_number() -> Number {
+    let mut bytes = [0u8; WORD];
+    let got = io::read_full(STDIN_FILENO, &mut bytes);
+    Number {
+        value: wire::float_of(word(&bytes)),
+        read: got == WORD,
+    }
+}
+
+// Each place is read, or the input ends before.
+pub(crate) fn fill(into: &mut [f64]) -> bool {
+    let mut i: usize = 0;
+    while i < into.len() {
+        let number = read_number();
+        if !number.read {
+            return false;
+        }
+        into[i] = number.value;
+        i += 1;
+    }
+    true
+}
+
+// Both buffers of a state or a matrix.
+pub(crate) fn fill_both(reals: &mut [f64], imags: &mut [f64]) -> bool {
+    if fill(reals) {
+        return fill(imags);
+    }
+    false
+}

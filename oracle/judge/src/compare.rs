@@ -1,0 +1,184 @@
+//! Both sides on the same cases, bit for bit.
+use crate::calls::{Call, Gate};
+use crate::cases;
+use crate::matrices::{self, Parts};
+use crate::random::Random;
+use crate::states::{has_nan, same, state, Kind, KINDS};
+use crate::{ours, rust};
+use gate_bench::{Answer, Refusal};
+use spinoza::core::State;
+use std::collections::BTreeMap;
+
+/// What was compared, under a name.
+#[derive(Default)]
+struct Row {
+    cases: u64,
+    different: u64,
+    nan: u64,
+    chance: u64,
+}
+
+pub struct Tally {
+    rows: BTreeMap<String, Row>,
+    shown: u32,
+}
+
+/// Of so many differences each is printed.
+const SHOWN: u32 = 10;
+
+/// How often each kind of state comes.
+const ROUNDS: usize = 6;
+
+impl Tally {
+    fn row(&mut self, name: &str) -> &mut Row {
+        self.rows.entry(name.to_string()).or_default()
+    }
+
+    fn different(&mut self, name: &str, what: &str) {
+        self.row(name).different += 1;
+        self.shown += 1;
+        if self.shown <= SHOWN {
+            println!("DIFFERENT: {what}");
+        }
+    }
+
+    /// One call on one state: by the kernel, and as a record delivered to a session.
+    fn call(&mut self, call: &Call, reals: &[f64], imags: &[f64]) {
+        let name = call.gate.name();
+        let mut theirs = State { reals: reals.to_vec(), imags: imags.to_vec(), n: call.n as u8 };
+        let (mut re, mut im) = (reals.to_vec(), imags.to_vec());
+        let answer = ours::run(call, &mut re, &mut im);
+        if answer == Answer::Refused(Refusal::Chance) && impossible(call, reals, imags) {
+            self.row(name).chance += 1;
+            return;
+        }
+        rust::run(call, &mut theirs);
+        if has_nan(&theirs.reals) || has_nan(&theirs.imags) {
+            self.row(name).nan += 1;
+            return;
+        }
+        self.row(name).cases += 1;
+        let bytes = ours::record(call);
+        let (mut re2, mut im2) = (reals.to_vec(), imags.to_vec());
+        let delivered = ours::deliver(call, &bytes, &mut re2, &mut im2);
+        let agree = same(&re, &theirs.reals) && same(&im, &theirs.imags);
+        let again = same(&re2, &theirs.reals) && same(&im2, &theirs.imags);
+        if !agree || !again || answer != expected(call) || delivered != ours::as_reply(answer) {
+            self.different(name, &format!("{call} answer {answer:?} delivered {delivered:?} reals {reals:?} imags {imags:?}"));
+        }
+    }
+
+    fn matrix(&mut self, name: &str, theirs: Parts, ours: Parts, what: &str) {
+        if has_nan(&theirs.0) || has_nan(&theirs.1) {
+            self.row(name).nan += 1;
+            return;
+        }
+        self.row(name).cases += 1;
+        if !matrices::agree(&theirs, &ours) {
+            self.different(name, what);
+        }
+    }
+}
+
+/// The answer that document 01 asks for.
+pub fn expected(call: &Call) -> Answer {
+    match call.gate {
+        Gate::Measure(outcome, _) => Answer::Value(outcome),
+        Gate::BitFlip(prob, k) => Answer::Value(u8::from(k as f64 / 2f64.powi(53) <= prob)),
+        _ => Answer::Taken,
+    }
+}
+
+/// The forced outcome's probability is not above 0. The sums are exact, so their order does not matter.
+pub fn impossible(call: &Call, reals: &[f64], imags: &[f64]) -> bool {
+    let Gate::Measure(outcome, _) = call.gate else {
+        return false;
+    };
+    let lower = (0..reals.len()).filter(|i| i >> call.target & 1 == 0);
+    let p0: f64 = lower.map(|i| reals[i] * reals[i] + imags[i] * imags[i]).sum();
+    let p = if outcome == 0 { p0 } else { 1.0 - p0 };
+    p <= 0.0
+}
+
+/// Every target and control for n up to 6, on every kind of state.
+fn small(tally: &mut Tally, random: &mut Random) {
+    for n in 1..=6 {
+        for kind in KINDS.repeat(ROUNDS) {
+            let mut calls = cases::all_pair_calls(n, random);
+            calls.extend(cases::all_swaps(n));
+            calls.extend(cases::all_flips(n, random));
+            for call in calls {
+                let (reals, imags) = state(kind, random, 1 << n);
+                tally.call(&call, &reals, &imags);
+            }
+        }
+        for _ in 0..8 * ROUNDS {
+            for call in cases::all_measurements(n) {
+                let (reals, imags) = state(Kind::Exact, random, 1 << n);
+                tally.call(&call, &reals, &imags);
+            }
+        }
+    }
+}
+
+/// Random targets and controls for n from 7 to 14.
+fn large(tally: &mut Tally, random: &mut Random) {
+    for n in 7..=14 {
+        for kind in KINDS.repeat(ROUNDS) {
+            for _ in 0..40 {
+                let (reals, imags) = state(kind, random, 1 << n);
+                tally.call(&cases::some_pair_call(n, random), &reals, &imags);
+            }
+            let (reals, imags) = state(kind, random, 1 << n);
+            let swaps = cases::all_swaps(n);
+            tally.call(&swaps[random.below(swaps.len() as u64) as usize], &reals, &imags);
+            let flips = cases::all_flips(n, random);
+            tally.call(&flips[random.below(flips.len() as u64) as usize], &reals, &imags);
+        }
+        for call in cases::all_measurements(n) {
+            let (reals, imags) = state(Kind::Exact, random, 1 << n);
+            tally.call(&call, &reals, &imags);
+        }
+    }
+}
+
+fn all_matrices(tally: &mut Tally, random: &mut Random) {
+    for n in 1..=6 {
+        for target in 0..n {
+            for gate in cases::pair_gates(random) {
+                let theirs = matrices::rust_gate_matrix(gate, n, target);
+                let ours = matrices::our_gate_matrix(matrices::entries(gate), n, target);
+                tally.matrix("matrix of a gate", theirs, ours, &format!("matrix of {} n={n} target={target}", gate.name()));
+            }
+        }
+        for kind in KINDS {
+            for _ in 0..4 * ROUNDS {
+                let (a, b) = (state(kind, random, 1 << (2 * n)), state(kind, random, 1 << (2 * n)));
+                let s = state(kind, random, 1 << n);
+                let what = format!("n={n} {kind:?}");
+                tally.matrix("conjugate transpose", matrices::rust_transpose(&a, n), matrices::our_transpose(&a, n), &what);
+                tally.matrix("product", matrices::rust_product(&a, &b, n), matrices::our_product(&a, &b, n), &what);
+                tally.matrix("product with a state", matrices::rust_state_product(&a, &s, n), matrices::our_state_product(&a, &s, n), &what);
+            }
+        }
+    }
+}
+
+/// Prints the table, and says whether nothing differed.
+pub fn run(seed: u64) -> bool {
+    let mut random = Random(seed);
+    let mut tally = Tally { rows: BTreeMap::new(), shown: 0 };
+    small(&mut tally, &mut random);
+    large(&mut tally, &mut random);
+    all_matrices(&mut tally, &mut random);
+    println!("| call | compared | different | outside: NaN came out | outside: impossible outcome |\n|---|---|---|---|---|");
+    let (mut cases, mut different, mut outside) = (0, 0, 0);
+    for (name, row) in &tally.rows {
+        println!("| {name} | {} | {} | {} | {} |", row.cases, row.different, row.nan, row.chance);
+        cases += row.cases;
+        different += row.different;
+        outside += row.nan + row.chance;
+    }
+    println!("\nseed {seed}: {cases} cases compared bit for bit, {different} different; {outside} made and left out as outside the domain");
+    different == 0
+}

@@ -1,0 +1,81 @@
+//! A call run by the archive, through the Rust crate over it.
+use crate::calls::{Call, Gate};
+use gate_bench as bench;
+use gate_bench::{Angle, Angles, Answer, Forced, Noise, Record, Reply, Session};
+
+/// The session that a call is delivered to.
+const NUMBER: u32 = 7;
+
+fn angle(v: &[f64]) -> Angle {
+    Angle { cosine: v[0], sine: v[1] }
+}
+
+fn angles(v: &[f64]) -> Angles {
+    Angles { ct: v[0], st: v[1], cl: v[2], sl: v[3], cpl: v[4], spl: v[5], cp: v[6], sp: v[7] }
+}
+
+pub fn run(call: &Call, reals: &mut [f64], imags: &mut [f64]) -> Answer {
+    run_with(call, &call.gate.numbers(), reals, imags)
+}
+
+/// With the gate's numbers worked out before.
+pub fn run_with(call: &Call, v: &[f64], reals: &mut [f64], imags: &mut [f64]) -> Answer {
+    let (n, target, ones) = (call.n, call.target, call.ones());
+    match call.gate {
+        Gate::X => bench::x_apply(reals, imags, n, target, ones),
+        Gate::Y => bench::y_apply(reals, imags, n, target, ones),
+        Gate::Z => bench::z_apply(reals, imags, n, target, ones),
+        Gate::H => bench::h_apply(reals, imags, n, target, ones),
+        Gate::P(_) => bench::p_apply(reals, imags, n, target, ones, angle(v)),
+        Gate::Rx(_) => bench::rx_apply(reals, imags, n, target, ones, angle(v)),
+        Gate::Ry(_) => bench::ry_apply(reals, imags, n, target, ones, angle(v)),
+        Gate::Rz(_) => bench::rz_apply(reals, imags, n, target, ones, angle(v)),
+        Gate::U(..) => bench::u_apply(reals, imags, n, target, ones, angles(v)),
+        Gate::Swap(second) => bench::swap_apply(reals, imags, n, target, second),
+        Gate::Measure(outcome, reset) => bench::measure_qubit(reals, imags, n, target, Forced { outcome, reset }),
+        Gate::BitFlip(..) => bench::bit_flip_noise_apply(reals, imags, n, target, Noise { prob: v[0], draw: v[1] }),
+    }
+}
+
+fn gate_of(call: &Call) -> bench::Gate {
+    let (t, ones) = (call.target as u8, call.ones());
+    let v = call.gate.numbers();
+    match call.gate {
+        Gate::H => bench::Gate::H(t, ones),
+        Gate::X => bench::Gate::X(t, ones),
+        Gate::Y => bench::Gate::Y(t, ones),
+        Gate::Z => bench::Gate::Z(t, ones),
+        Gate::P(_) => bench::Gate::P(t, ones, angle(&v)),
+        Gate::Rx(_) => bench::Gate::Rx(t, ones, angle(&v)),
+        Gate::Ry(_) => bench::Gate::Ry(t, ones, angle(&v)),
+        Gate::Rz(_) => bench::Gate::Rz(t, ones, angle(&v)),
+        Gate::U(..) => bench::Gate::U(t, ones, angles(&v)),
+        Gate::Swap(second) => bench::Gate::Swap(t, second as u8),
+        Gate::Measure(outcome, reset) => bench::Gate::Measure(t, Forced { outcome, reset }),
+        Gate::BitFlip(..) => bench::Gate::BitFlip(t, Noise { prob: v[0], draw: v[1] }),
+    }
+}
+
+/// The call as a record's bytes: the first of its session.
+pub fn record(call: &Call) -> Vec<u8> {
+    let mut bytes = vec![0; bench::RECORD_MOST];
+    let record = Record { session: NUMBER, number: 0, gate: gate_of(call) };
+    let length = bench::write_record(&record, &mut bytes).expect("there is room for it");
+    bytes.truncate(length);
+    bytes
+}
+
+/// The call as the first delivery to a new session.
+pub fn deliver(call: &Call, bytes: &[u8], reals: &mut [f64], imags: &mut [f64]) -> Reply {
+    let mut session = Session::start(call.n, NUMBER).expect("n is 1 to 24");
+    session.deliver(bytes, reals, imags)
+}
+
+/// What a delivery says where the kernel gives this answer.
+pub fn as_reply(answer: Answer) -> Reply {
+    match answer {
+        Answer::Taken => Reply::Taken,
+        Answer::Value(v) => Reply::Value(v),
+        Answer::Refused(refusal) => Reply::Refused(refusal),
+    }
+}
