@@ -1,0 +1,3 @@
+-- Answers as numbers, and records as flat lists of numbers.
+pub mod Tells
+pub mod Flat

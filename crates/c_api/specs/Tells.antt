@@ -1,0 +1,42 @@
+-- How an answer stands in one number, and the contracts of the calls that give one. Definitions only. Assumes nothing.
+use Prim.Native.Nat.{ℕ, _+_}
+use mathlib.Core.List.{[], _∷_}
+use mathlib.Core.Option.{Option, some, none}
+use mathlib.Core.Path.{_≡_}
+use lib.Ieee.{Float}
+use Rattle.book.specs.Answers.{Said, taken, value, refused, Replied, again, said, Buffers, Outcome}
+use Rattle.book.specs.Sessions as Book
+use Rattle.book.specs.State.{amplitude}
+use Rattle.book.specs.declared.Matrix.{Matrix}
+
+-- 0 taken, a refusal's own number, 32 + v a value
+abbrev pub codeOf : Said → ℕ
+codeOf taken = 0
+codeOf (value v) = 32 + v
+codeOf (refused k) = k
+
+-- 16 for AGAIN
+abbrev pub replyOf : Replied → ℕ
+replyOf again = 16
+replyOf (said x) = codeOf x
+
+-- a session that starts, or refusal 1
+abbrev pub startOf : Option Book.Session → ℕ
+startOf (some s) = 0
+startOf none = 1
+
+-- The whole contract of a call on two buffers: the number returned, and every place of both.
+pub record Tells (o : Outcome) (code : ℕ) (after : Buffers) : Type 0 where
+  pub answers : code ≡ codeOf (o .says)
+  pub leaves : after ≡ o .left
+
+-- The whole contract of a delivery: the number returned, the count written back, and every place of both buffers.
+pub record TellsDelivery (d : Book.Delivery) (code count : ℕ) (after : Buffers) : Type 0 where
+  pub answers : code ≡ replyOf (d .says)
+  pub counts : count ≡ d .next .count
+  pub leaves : after ≡ d .left
+
+-- a gate's four entries, row by row
+abbrev pub fourEntries : Float → Float → Float → Float → Float → Float → Float → Float → Matrix
+fourEntries re00 im00 re01 im01 re10 im10 re11 im11 =
+    record { entries = amplitude re00 im00 ∷ amplitude re01 im01 ∷ amplitude re10 im10 ∷ amplitude re11 im11 ∷ [] }
