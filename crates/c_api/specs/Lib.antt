@@ -1,3 +1,3 @@
--- Answers as numbers, and records as flat lists of numbers.
+-- Answers as numbers, and the contracts of the calls.
 pub mod Tells
-pub mod Flat
+pub mod Spelling

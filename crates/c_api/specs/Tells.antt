@@ -4,9 +4,10 @@ use mathlib.Core.List.{[], _∷_}
 use mathlib.Core.Option.{Option, some, none}
 use mathlib.Core.Path.{_≡_}
 use lib.Ieee.{Float}
-use Rattle.book.specs.Answers.{Said, taken, value, refused, Replied, again, said, Buffers, Outcome}
+use Rattle.book.specs.Answers.{Said, taken, value, refused, Replied, again, said, Buffers, Outcome, says, Does}
 use Rattle.book.specs.Sessions as Book
 use Rattle.book.specs.State.{amplitude}
+use Rattle.book.specs.declared.Answer.{Answer}
 use Rattle.book.specs.declared.Matrix.{Matrix}
 
 -- 0 taken, a refusal's own number, 32 + v a value
@@ -25,10 +26,14 @@ abbrev pub startOf : Option Book.Session → ℕ
 startOf (some s) = 0
 startOf none = 1
 
--- The whole contract of a call on two buffers: the number returned, and every place of both.
+-- The whole contract of a call on two buffers: the number is that of an answer that the outcome allows. So it is the outcome's own (TellsPlainly).
 pub record Tells (o : Outcome) (code : ℕ) (after : Buffers) : Type 0 where
-  pub answers : code ≡ codeOf (o .says)
-  pub leaves : after ≡ o .left
+  pub answer : Answer
+  pub does : Does o answer after
+  pub tells : code ≡ codeOf (says answer)
+
+abbrev pub TellsPlainly : Type 0
+TellsPlainly = {o : Outcome} {code : ℕ} {after : Buffers} → Tells o code after → (code ≡ codeOf (o .says)) × (after ≡ o .left)
 
 -- The whole contract of a delivery: the number returned, the count written back, and every place of both buffers.
 pub record TellsDelivery (d : Book.Delivery) (code count : ℕ) (after : Buffers) : Type 0 where

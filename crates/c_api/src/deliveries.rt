@@ -39,5 +39,6 @@ pub extern "C" fn gate_bench_deliver(
     };
     let delivered = session.deliver(bytes, reals, imags);
     *count = delivered.count;
-    tell_reply(delivered.reply)
+    let reply = delivered.reply;
+    tell_reply(reply)
 }

@@ -2,7 +2,6 @@
 // one number. No call demands anything of its caller but what the header says of pointers.
 mod answers;
 mod deliveries;
-mod flat;
 mod kernels;
 mod matrices;
 mod spelling;

@@ -1,15 +1,16 @@
 // A record's bytes from its numbers, and its numbers from the bytes.
 use crate::answers::TAKEN;
 use crate::answers::number_of;
-use crate::flat::put_fields;
-use crate::flat::put_numbers;
-use crate::flat::record_of;
-use crate::flat::too_few;
 use book::Read;
 use book::Refusal;
 use book::Written;
+use flat::put_fields;
+use flat::put_numbers;
+use flat::record_of;
+use flat::too_few;
 ghost use Rattle.book.specs.Records.{readRecord};
-ghost use Rattle.c_api.specs.Flat.{recordOf, Reads, Writes};
+ghost use Rattle.flat.specs.Numbers.{recordOf};
+ghost use Rattle.c_api.specs.Spelling.{Reads, Writes};
 
 // The bytes as a record: 8 if they are none; then 12 if fewer places are lent than a record's numbers take.
 #[no_mangle]

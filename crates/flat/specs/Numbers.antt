@@ -8,7 +8,7 @@ use lib.Dec.{ltb}
 use lib.Ieee.{Float, nan}
 use lib.ListN.{length, drop, getD}
 use Rattle.book.specs.Gates.{nought, anglesOf}
-use Rattle.book.specs.Records.{made, wroteOf, leftBy}
+use Rattle.book.specs.Records.{made}
 use Rattle.book.specs.declared.Angle.{Angle}
 use Rattle.book.specs.declared.Angles.{Angles}
 use Rattle.book.specs.declared.Controls.{Controls}
@@ -16,13 +16,10 @@ use Rattle.book.specs.declared.Gate.{Gate}
 use Rattle.book.specs.declared.Gate.the-variants.{H, X, Y, Z, P, Rx, Ry, Rz, U, Swap, Measure, BitFlip}
 use Rattle.book.specs.declared.Noise.{Noise}
 use Rattle.book.specs.declared.Record.{Record}
-use Rattle.book.specs.declared.Written.{Written}
-use Rattle.book.specs.declared.Written.the-variants.{Bytes, Refused as Unwritten}
-use Rattle.book.specs.Answers.{numberOf}
 use Rattle.records.specs.RoundTrips.{Held}
-use Rattle.c_api.specs.declared.flat.Flat.{Flat}
-use Rattle.c_api.specs.declared.flat.Made.{Made}
-use Rattle.c_api.specs.declared.flat.Made.the-variants.{Gate as Found, Missing}
+use Rattle.flat.specs.declared.Flat.{Flat}
+use Rattle.flat.specs.declared.Made.{Made}
+use Rattle.flat.specs.declared.Made.the-variants.{Gate as Found, Missing}
 
 -- ---- a record's numbers
 
@@ -60,6 +57,10 @@ flatFields r =
 
 abbrev pub flatNumbers : Record → List Float
 flatNumbers r = anglesOf (flatOf (r .gate) .numbers)
+
+-- a list with its first places written over
+abbrev pub over : {A : Type 0} → List A → List A → List A
+over new old = new ++ drop (length new) old
 
 -- ---- and back
 
@@ -119,7 +120,7 @@ numbersAt xs =
     }
 
 -- fewer than six fields, or fewer than eight numbers
-abbrev pub tooFew : List ℕ → List Float → Bool
+unfoldable pub tooFew : List ℕ → List Float → Bool
 tooFew fs xs = ltb (length fs) 6 || ltb (length xs) 8
 
 -- the record that the first places are; none where there are too few, or a number is beyond what a record holds there
@@ -132,44 +133,3 @@ recordOf fs xs =
 -- a record comes back from its numbers
 abbrev pub FlatBack : Type 0
 FlatBack = (r : Record) → Held r → recordOf (flatFields r) (flatNumbers r) ≡ some r
-
--- ---- the contracts
-
--- a list with its first places written over
-abbrev pub over : {A : Type 0} → List A → List A → List A
-over new old = new ++ drop (length new) old
-
--- Reading: 8 where the bytes are no record, else 12 where fewer places are lent, else 0.
-abbrev pub readCode : Option Record → List ℕ → List Float → ℕ
-readCode none fs xs = 8
-readCode (some r) fs xs = cond (tooFew fs xs) 12 0
-
-abbrev pub fieldsAfter : Option Record → List ℕ → List Float → List ℕ
-fieldsAfter none fs xs = fs
-fieldsAfter (some r) fs xs = cond (tooFew fs xs) fs (over (flatFields r) fs)
-
-abbrev pub numbersAfter : Option Record → List ℕ → List Float → List Float
-numbersAfter none fs xs = xs
-numbersAfter (some r) fs xs = cond (tooFew fs xs) xs (over (flatNumbers r) xs)
-
-pub record Reads (read : Option Record) (fs : List ℕ) (xs : List Float) (code : ℕ) (fs′ : List ℕ) (xs′ : List Float) : Type 0 where
-  pub answers : code ≡ readCode read fs xs
-  pub fields : fs′ ≡ fieldsAfter read fs xs
-  pub numbers : xs′ ≡ numbersAfter read fs xs
-
--- Writing: 8 where the numbers are no record's, else how many bytes, or 12.
-abbrev pub writtenOf : Written → ℕ
-writtenOf (Bytes k) = k
-writtenOf (Unwritten refusal) = numberOf refusal
-
-abbrev pub writeCode : Option Record → List ℕ → ℕ
-writeCode none out = 8
-writeCode (some r) out = writtenOf (wroteOf r out)
-
-abbrev pub outAfter : Option Record → List ℕ → List ℕ
-outAfter none out = out
-outAfter (some r) out = leftBy r out
-
-pub record Writes (it : Option Record) (out : List ℕ) (code : ℕ) (out′ : List ℕ) : Type 0 where
-  pub answers : code ≡ writeCode it out
-  pub leaves : out′ ≡ outAfter it out

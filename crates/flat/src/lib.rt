@@ -12,7 +12,7 @@ ghost use mathlib.Core.Path.{_≡_};
 ghost use Prim.Native.Nat.{_≤_};
 ghost use lib.ListN.{length};
 ghost use Rattle.book.specs.Records.{readOf};
-ghost use Rattle.c_api.specs.Flat.{two, coded, flatOf, over, flatFields, flatNumbers, tooFew, numbersAt, madeOf, swapOf, measureOf, gateOf, recordOf};
+ghost use Rattle.flat.specs.Numbers.{two, coded, flatOf, over, flatFields, flatNumbers, tooFew, numbersAt, madeOf, swapOf, measureOf, gateOf, recordOf};
 
 // How many places a record's numbers take.
 const FIELDS: usize = 6;
@@ -34,21 +34,6 @@ pub enum Made {
     Missing,
 }
 
-fn two(x: f64, y: f64) -> Angles
-    ensures { λ r. ⌜ r ≡ two x y ⌝ }
-{
-    Angles {
-        ct: x,
-        st: y,
-        cl: 0.0,
-        sl: 0.0,
-        cpl: 0.0,
-        spl: 0.0,
-        cp: 0.0,
-        sp: 0.0,
-    }
-}
-
 fn coded(code: u32, target: u8, second: u32, reset: u8, numbers: Angles) -> Flat
     ensures { λ r. ⌜ r ≡ coded code target second reset numbers ⌝ }
 {
@@ -61,27 +46,44 @@ fn coded(code: u32, target: u8, second: u32, reset: u8, numbers: Angles) -> Flat
     }
 }
 
+// A gate with two numbers at most.
+fn paired(code: u32, target: u8, second: u32, reset: u8, x: f64, y: f64) -> Flat
+    ensures { λ r. ⌜ r ≡ coded code target second reset (two x y) ⌝ }
+{
+    let numbers = Angles {
+        ct: x,
+        st: y,
+        cl: 0.0,
+        sl: 0.0,
+        cpl: 0.0,
+        spl: 0.0,
+        cp: 0.0,
+        sp: 0.0,
+    };
+    coded(code, target, second, reset, numbers)
+}
+
 fn flat_of(gate: Gate) -> Flat
     ensures { λ r. ⌜ r ≡ flatOf gate ⌝ }
 {
     match gate {
-        Gate::H(t, c) => coded(1, t, c.ones, 0, two(0.0, 0.0)),
-        Gate::X(t, c) => coded(2, t, c.ones, 0, two(0.0, 0.0)),
-        Gate::Y(t, c) => coded(3, t, c.ones, 0, two(0.0, 0.0)),
-        Gate::Z(t, c) => coded(4, t, c.ones, 0, two(0.0, 0.0)),
-        Gate::P(t, c, a) => coded(5, t, c.ones, 0, two(a.cosine, a.sine)),
-        Gate::Rx(t, c, a) => coded(6, t, c.ones, 0, two(a.cosine, a.sine)),
-        Gate::Ry(t, c, a) => coded(7, t, c.ones, 0, two(a.cosine, a.sine)),
-        Gate::Rz(t, c, a) => coded(8, t, c.ones, 0, two(a.cosine, a.sine)),
+        Gate::H(t, c) => paired(1, t, c.ones, 0, 0.0, 0.0),
+        Gate::X(t, c) => paired(2, t, c.ones, 0, 0.0, 0.0),
+        Gate::Y(t, c) => paired(3, t, c.ones, 0, 0.0, 0.0),
+        Gate::Z(t, c) => paired(4, t, c.ones, 0, 0.0, 0.0),
+        Gate::P(t, c, a) => paired(5, t, c.ones, 0, a.cosine, a.sine),
+        Gate::Rx(t, c, a) => paired(6, t, c.ones, 0, a.cosine, a.sine),
+        Gate::Ry(t, c, a) => paired(7, t, c.ones, 0, a.cosine, a.sine),
+        Gate::Rz(t, c, a) => paired(8, t, c.ones, 0, a.cosine, a.sine),
         Gate::U(t, c, g) => coded(9, t, c.ones, 0, g),
-        Gate::Swap(t, u) => coded(10, t, u as u32, 0, two(0.0, 0.0)),
-        Gate::Measure(t, f) => coded(11, t, f.outcome as u32, f.reset, two(0.0, 0.0)),
-        Gate::BitFlip(t, n) => coded(12, t, 0, 0, two(n.prob, n.draw)),
+        Gate::Swap(t, u) => paired(10, t, u as u32, 0, 0.0, 0.0),
+        Gate::Measure(t, f) => paired(11, t, f.outcome as u32, f.reset, 0.0, 0.0),
+        Gate::BitFlip(t, n) => paired(12, t, 0, 0, n.prob, n.draw),
     }
 }
 
 // Fewer places than a record's numbers take.
-pub(crate) fn too_few(fields: &[u32], numbers: &[f64]) -> bool
+pub fn too_few(fields: &[u32], numbers: &[f64]) -> bool
     ensures { λ r. ⌜ r ≡ tooFew (now (fields .entry)) (now (numbers .entry)) ⌝ }
 {
     if fields.len() < FIELDS {
@@ -90,7 +92,7 @@ pub(crate) fn too_few(fields: &[u32], numbers: &[f64]) -> bool
     numbers.len() < NUMBERS
 }
 
-pub(crate) fn put_fields(it: Record, fields: &mut [u32])
+pub fn put_fields(it: Record, fields: &mut [u32])
     requires { ⌜ 6 ≤ length (now fields) ⌝ }
     ensures { λ _. ⌜ now (fields .exit) ≡ over (flatFields it) (now (fields .entry)) ⌝ }
 {
@@ -104,7 +106,7 @@ pub(crate) fn put_fields(it: Record, fields: &mut [u32])
     fields[5] = flat.reset;
 }
 
-pub(crate) fn put_numbers(it: Record, numbers: &mut [f64])
+pub fn put_numbers(it: Record, numbers: &mut [f64])
     requires { ⌜ 8 ≤ length (now numbers) ⌝ }
     ensures { λ _. ⌜ now (numbers .exit) ≡ over (flatNumbers it) (now (numbers .entry)) ⌝ }
 {
@@ -198,7 +200,7 @@ fn gate_of(code: u32, target: u8, second: u32, reset: u32, g: Angles) -> Made
 }
 
 // The record that the first places are, or refusal 8.
-pub(crate) fn record_of(fields: &[u32], numbers: &[f64]) -> Read
+pub fn record_of(fields: &[u32], numbers: &[f64]) -> Read
     ensures { λ r. ⌜ r ≡ readOf (recordOf (now (fields .entry)) (now (numbers .entry))) ⌝ }
 {
     if too_few(fields, numbers) {

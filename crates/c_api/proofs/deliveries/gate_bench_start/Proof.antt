@@ -1,0 +1,16 @@
+-- `c_api::deliveries::gate_bench_start` answers 0 for a session, and refusal 1 for none. Assumes nothing.
+use mathlib.Core.Path.{_≡_, refl, sym, ap, _∙_}
+use borrow.Author.Needs.{needs}
+use Rattle.c_api.proofs.deliveries.gate_bench_start.Statement.{statement}
+use Rattle.c_api.proofs.deliveries.gate_bench_start.Tie as tie
+
+returns : tie.Need-returns
+returns c = ?
+
+returns-2 : tie.Need-returns-2
+returns-2 c = ?
+
+pub gate-bench-start-spec : {M : Type 1} → statement M
+gate-bench-start-spec =
+    tie.close
+    (tie.spec (λ c κs. search needs) (λ c. search needs) (λ c. search needs) (λ c κs. search needs) returns returns-2)
