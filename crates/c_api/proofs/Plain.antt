@@ -3,4 +3,4 @@ use mathlib.Core.Path.{ap, _∙_}
 use Rattle.c_api.specs.Tells.{codeOf, TellsPlainly}
 
 pub tells-plainly : TellsPlainly
-tells-plainly t = (t .tells ∙ ap codeOf (t .does .answers), t .does .leaves)
+tells-plainly o code after t = (t .tells ∙ ap codeOf (t .does .answers), t .does .leaves)

@@ -1,6 +1,6 @@
 -- How an answer stands in one number, and the contracts of the calls that give one. Definitions only. Assumes nothing.
 use Prim.Native.Nat.{ℕ, _+_}
-use mathlib.Core.List.{[], _∷_}
+use mathlib.Core.List.{List, [], _∷_}
 use mathlib.Core.Option.{Option, some, none}
 use mathlib.Core.Path.{_≡_}
 use lib.Ieee.{Float}
@@ -33,13 +33,19 @@ pub record Tells (o : Outcome) (code : ℕ) (after : Buffers) : Type 0 where
   pub tells : code ≡ codeOf (says answer)
 
 abbrev pub TellsPlainly : Type 0
-TellsPlainly = {o : Outcome} {code : ℕ} {after : Buffers} → Tells o code after → (code ≡ codeOf (o .says)) × (after ≡ o .left)
+TellsPlainly = (o : Outcome) (code : ℕ) (after : Buffers) → Tells o code after → (code ≡ codeOf (o .says)) × (after ≡ o .left)
 
 -- The whole contract of a delivery: the number returned, the count written back, and every place of both buffers.
 pub record TellsDelivery (d : Book.Delivery) (code count : ℕ) (after : Buffers) : Type 0 where
   pub answers : code ≡ replyOf (d .says)
   pub counts : count ≡ d .next .count
   pub leaves : after ≡ d .left
+
+-- A delivery keeps n and the session's number: a caller that keeps them itself, and is handed the count, loses nothing.
+abbrev pub KeepsItsOwn : Type 0
+KeepsItsOwn =
+    (s : Book.Session) (b : Buffers) (bytes : List ℕ)
+    → (Book.deliver s b bytes .next .n ≡ s .n) × (Book.deliver s b bytes .next .number ≡ s .number)
 
 -- a gate's four entries, row by row
 abbrev pub fourEntries : Float → Float → Float → Float → Float → Float → Float → Float → Matrix
