@@ -6,8 +6,10 @@
  *   16       AGAIN: a delivery's record was run before, and nothing has changed
  *   32 + v   taken, with the value v (0 or 1) of a measurement or a bit flip
  * A state of n qubits is two buffers of 2^n doubles, real and imaginary parts; a matrix two of 4^n, row by row.
- * A slice is passed as a pointer and a length in elements. What the caller answers for: that many elements are there,
- * no buffer that a call writes overlaps another of the same call, and no other thread touches them meanwhile. */
+ * A slice is passed as a pointer and a length in elements. What the caller answers for: the pointer is not NULL and is
+ * aligned, that many elements are there, nothing that a call writes overlaps another of its buffers, and no other thread
+ * touches them meanwhile. Everything else is proved (crates/c_api): each call's number and every place that it writes.
+ * Link with the archive alone; it calls nothing but itself. It is x86-64 code. */
 #ifndef GATE_BENCH_H
 #define GATE_BENCH_H
 
@@ -42,7 +44,8 @@ enum gate_bench_answer {
 /* 0 where a session of n qubits can start (n 1 to 24), else 1. A session is n, its number, and a count that starts at 0. */
 uint32_t gate_bench_start(uint32_t n, uint32_t number);
 
-/* One delivery: the bytes are read as a record and, if its number is the count, run on the state; the count is then one higher. */
+/* One delivery: the bytes are read as a record and, if its number is the count, run on the state; the count is then one
+ * higher. A lower number answers 16, a higher one 10. Refusals in the order 1, 2, 8, 9, 11, (16), 10, 3 to 7. */
 uint32_t gate_bench_deliver(uint32_t n, uint32_t number, uint16_t *count, const uint8_t *bytes, size_t bytes_len,
                             double *reals, size_t reals_len, double *imags, size_t imags_len);
 
@@ -89,7 +92,7 @@ uint32_t gate_bench_multiply(const double *ar, size_t ar_len, const double *ai, 
 uint32_t gate_bench_apply_unitary(const double *ar, size_t ar_len, const double *ai, size_t ai_len, const double *sr, size_t sr_len,
                                   const double *si, size_t si_len, double *reals, size_t reals_len, double *imags, size_t imags_len, uint32_t n);
 
-/* ---- records: six whole numbers and eight doubles. What a gate does not have is 0 */
+/* ---- records: six whole numbers and eight doubles. What a gate does not have is read as 0, and not looked at on writing */
 
 enum gate_bench_field {
     GATE_BENCH_FIELD_SESSION = 0,
@@ -97,12 +100,18 @@ enum gate_bench_field {
     GATE_BENCH_FIELD_CODE = 2,   /* H 1, X 2, Y 3, Z 4, P 5, RX 6, RY 7, RZ 8, U 9, SWAP 10, measurement 11, bit flip 12 */
     GATE_BENCH_FIELD_TARGET = 3,
     GATE_BENCH_FIELD_SECOND = 4, /* the controls' mask; SWAP's second qubit; a measurement's outcome */
-    GATE_BENCH_FIELD_RESET = 5   /* a measurement's reset */
+    GATE_BENCH_FIELD_RESET = 5,  /* a measurement's reset */
+    GATE_BENCH_FIELDS = 6,
+    GATE_BENCH_NUMBERS = 8,      /* U's eight; else cosine and sine, or prob and draw, in the first two */
+    GATE_BENCH_RECORD_MOST = 94  /* bytes of the longest record, U's */
 };
 
-/* The bytes as a record, into six fields and eight numbers. 8 if they are none, 12 if fewer places are lent. */
+/* The bytes as a record, into the first six fields and the first eight numbers. 8 if they are no record, and then 12 if fewer
+ * places are lent. */
 uint32_t gate_bench_read_record(const uint8_t *bytes, size_t bytes_len, uint32_t *fields, size_t fields_len, double *numbers, size_t numbers_len);
-/* The record's bytes, into out: answers how many (20 to 94), or 8 if the fields are no record's, or 12 if there is no room. */
+/* The record's bytes, into the first places of out: answers how many (24 to 94). 8 if there are fewer than six fields or eight
+ * numbers, or the code is not 1 to 12, or the number is above 65535, or the target, SWAP's second qubit, an outcome or a reset
+ * above 255; and then 12 if out is too short. */
 uint32_t gate_bench_write_record(const uint32_t *fields, size_t fields_len, const double *numbers, size_t numbers_len, uint8_t *out, size_t out_len);
 
 /* ---- numbers */
@@ -111,6 +120,31 @@ uint32_t gate_bench_write_record(const uint32_t *fields, size_t fields_len, cons
 double gate_bench_fused(double x, double y, double z);
 /* The square root, rounded once. */
 double gate_bench_root(double x);
+
+/* ---- for convenience: a session's three numbers in one place */
+
+struct gate_bench_session {
+    uint32_t n;
+    uint32_t number;
+    uint16_t count;
+};
+
+/* 0 and a session whose count is 0, or 1 and the session as it was. */
+static inline uint32_t gate_bench_session_start(struct gate_bench_session *session, uint32_t n, uint32_t number) {
+    uint32_t answer = gate_bench_start(n, number);
+    if (answer == GATE_BENCH_TAKEN) {
+        session->n = n;
+        session->number = number;
+        session->count = 0;
+    }
+    return answer;
+}
+
+/* One delivery to a session whose state has `places` places in each buffer. */
+static inline uint32_t gate_bench_session_deliver(struct gate_bench_session *session, const uint8_t *bytes, size_t bytes_len,
+                                                  double *reals, double *imags, size_t places) {
+    return gate_bench_deliver(session->n, session->number, &session->count, bytes, bytes_len, reals, places, imags, places);
+}
 
 #ifdef __cplusplus
 }
