@@ -7,6 +7,7 @@
 
 mod answers;
 #[allow(unsafe_code)]
+#[rustfmt::skip]
 mod ffi;
 mod gates;
 mod matrices;
