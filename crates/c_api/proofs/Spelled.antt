@@ -8,17 +8,20 @@ use mathlib.Core.Path.{_≡_, refl, sym, ap, _∙_}
 use lib.Dec.{ltb}
 use lib.Ieee.{Float}
 use lib.ListN.{length}
-use Rattle.book.specs.Answers.{numberOf}
+use Rattle.book.specs.Answers.{numberOf, says}
 use Rattle.book.specs.Records.{readOf, writeRecord, wroteOf, leftBy}
+use Rattle.book.specs.declared.Answer.{Answer}
+use Rattle.book.specs.declared.Answer.the-variants.{Taken, Refused}
 use Rattle.book.specs.declared.Read.the-variants.{Record as Found, Refused as Unread}
 use Rattle.book.specs.declared.Record.{Record}
 use Rattle.book.specs.declared.Refusal.{Refusal}
 use Rattle.book.specs.declared.Refusal.the-variants.{Record as NoRecord, Room}
 use Rattle.book.specs.declared.Written.{Written}
 use Rattle.book.specs.declared.Written.the-variants.{Bytes, Refused as Unwritten}
-use Rattle.flat.specs.Numbers.{flatFields, flatNumbers, over, tooFew}
+use Rattle.flat.specs.Numbers.{tooFew, Puts}
 use Rattle.records.proofs.Sizes.{at-most-94}
 use Rattle.c_api.specs.Spelling.{Reads, writtenOf, Writes}
+use Rattle.c_api.specs.Tells.{codeOf}
 
 -- ---- which of the two was read
 
@@ -36,13 +39,16 @@ module _ (o : Option Record) (fs : List ℕ) (xs : List Float) {code : ℕ} wher
   pub reads-none : {x : Refusal} → readOf o ≡ Unread x → code ≡ numberOf x → Reads o fs xs code fs xs
   reads-none e a = let n = no-record o e in rw (n .0) (record { answers = a ∙ ap numberOf (n .1); fields = refl; numbers = refl })
 
-  module _ {it : Record} (e : readOf o ≡ Found it) where
-    pub reads-few : tooFew fs xs ≡ true → code ≡ 12 → Reads o fs xs code fs xs
-    reads-few few a = rw (a-record o e) (record { answers = rw few a; fields = rw few; numbers = rw few })
+  pub reads : {it : Record} {answer : Answer} {fs′ : List ℕ} {xs′ : List Float}
+      → readOf o ≡ Found it → Puts it fs xs answer fs′ xs′ → code ≡ codeOf (says answer) → Reads o fs xs code fs′ xs′
+  reads e p a = rw (a-record o e) (record { answers = a ∙ ap told (p .answers) ∙ by (tooFew fs xs); fields = p .fields; numbers = p .numbers })
+    where
+      told : Answer → ℕ
+      told x = codeOf (says x)
 
-    pub reads-all : tooFew fs xs ≡ false → {fs′ : List ℕ} {xs′ : List Float}
-        → fs′ ≡ over (flatFields it) fs → xs′ ≡ over (flatNumbers it) xs → code ≡ 0 → Reads o fs xs code fs′ xs′
-    reads-all few p q a = rw (a-record o e) (record { answers = rw few a; fields = rw few p; numbers = rw few q })
+      by : (t : Bool) → told (cond t (Refused Room) Taken) ≡ cond t 12 0
+      by true = refl
+      by false = refl
 
 -- ---- writing
 

@@ -1,13 +1,10 @@
 // A record's bytes from its numbers, and its numbers from the bytes.
-use crate::answers::TAKEN;
 use crate::answers::number_of;
+use crate::answers::tell;
 use book::Read;
-use book::Refusal;
 use book::Written;
-use flat::put_fields;
-use flat::put_numbers;
+use flat::put_record;
 use flat::record_of;
-use flat::too_few;
 ghost use Rattle.book.specs.Records.{readRecord};
 ghost use Rattle.flat.specs.Numbers.{recordOf};
 ghost use Rattle.c_api.specs.Spelling.{Reads, Writes};
@@ -22,14 +19,7 @@ pub extern "C" fn gate_bench_read_record(
     ensures { λ r. ⌜ Reads (readRecord (now (bytes .entry))) (now (fields .entry)) (now (numbers .entry)) r (now (fields .exit)) (now (numbers .exit)) ⌝ }
 {
     match reader::read_record(bytes) {
-        Read::Record(it) => {
-            if too_few(fields, numbers) {
-                return number_of(Refusal::Room);
-            }
-            put_fields(it, fields);
-            put_numbers(it, numbers);
-            TAKEN
-        }
+        Read::Record(it) => tell(put_record(it, fields, numbers)),
         Read::Refused(refusal) => number_of(refusal),
     }
 }

@@ -11,11 +11,14 @@ use Rattle.book.specs.Gates.{nought, anglesOf}
 use Rattle.book.specs.Records.{made}
 use Rattle.book.specs.declared.Angle.{Angle}
 use Rattle.book.specs.declared.Angles.{Angles}
+use Rattle.book.specs.declared.Answer.{Answer}
+use Rattle.book.specs.declared.Answer.the-variants.{Taken, Refused}
 use Rattle.book.specs.declared.Controls.{Controls}
 use Rattle.book.specs.declared.Gate.{Gate}
 use Rattle.book.specs.declared.Gate.the-variants.{H, X, Y, Z, P, Rx, Ry, Rz, U, Swap, Measure, BitFlip}
 use Rattle.book.specs.declared.Noise.{Noise}
 use Rattle.book.specs.declared.Record.{Record}
+use Rattle.book.specs.declared.Refusal.the-variants.{Room}
 use Rattle.records.specs.RoundTrips.{Held}
 use Rattle.flat.specs.declared.Flat.{Flat}
 use Rattle.flat.specs.declared.Made.{Made}
@@ -61,6 +64,16 @@ flatNumbers r = anglesOf (flatOf (r .gate) .numbers)
 -- a list with its first places written over
 abbrev pub over : {A : Type 0} → List A → List A → List A
 over new old = new ++ drop (length new) old
+
+-- fewer than six fields, or fewer than eight numbers
+unfoldable pub tooFew : List ℕ → List Float → Bool
+tooFew fs xs = ltb (length fs) 6 || ltb (length xs) 8
+
+-- A record's numbers put into lent places: refusal 12 where there are too few, and then nothing changes.
+pub record Puts (r : Record) (fs : List ℕ) (xs : List Float) (answer : Answer) (fs′ : List ℕ) (xs′ : List Float) : Type 0 where
+  pub answers : answer ≡ cond (tooFew fs xs) (Refused Room) Taken
+  pub fields : fs′ ≡ cond (tooFew fs xs) fs (over (flatFields r) fs)
+  pub numbers : xs′ ≡ cond (tooFew fs xs) xs (over (flatNumbers r) xs)
 
 -- ---- and back
 
@@ -118,10 +131,6 @@ numbersAt xs =
       cp = getD xs 6 nan;
       sp = getD xs 7 nan;
     }
-
--- fewer than six fields, or fewer than eight numbers
-unfoldable pub tooFew : List ℕ → List Float → Bool
-tooFew fs xs = ltb (length fs) 6 || ltb (length xs) 8
 
 -- the record that the first places are; none where there are too few, or a number is beyond what a record holds there
 unfoldable pub recordOf : List ℕ → List Float → Option Record

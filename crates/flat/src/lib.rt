@@ -1,6 +1,7 @@
 // A record as six whole numbers and eight floats, and back. Unused places are 0 and +0.0; on the way back they are not looked at.
 use book::Angle;
 use book::Angles;
+use book::Answer;
 use book::Controls;
 use book::Forced;
 use book::Gate;
@@ -12,7 +13,7 @@ ghost use mathlib.Core.Path.{_≡_};
 ghost use Prim.Native.Nat.{_≤_};
 ghost use lib.ListN.{length};
 ghost use Rattle.book.specs.Records.{readOf};
-ghost use Rattle.flat.specs.Numbers.{two, coded, flatOf, over, flatFields, flatNumbers, tooFew, numbersAt, madeOf, swapOf, measureOf, gateOf, recordOf};
+ghost use Rattle.flat.specs.Numbers.{two, coded, flatOf, over, flatFields, flatNumbers, tooFew, Puts, numbersAt, madeOf, swapOf, measureOf, gateOf, recordOf};
 
 // How many places a record's numbers take.
 const FIELDS: usize = 6;
@@ -83,7 +84,7 @@ fn flat_of(gate: Gate) -> Flat
 }
 
 // Fewer places than a record's numbers take.
-pub fn too_few(fields: &[u32], numbers: &[f64]) -> bool
+fn too_few(fields: &[u32], numbers: &[f64]) -> bool
     ensures { λ r. ⌜ r ≡ tooFew (now (fields .entry)) (now (numbers .entry)) ⌝ }
 {
     if fields.len() < FIELDS {
@@ -92,7 +93,7 @@ pub fn too_few(fields: &[u32], numbers: &[f64]) -> bool
     numbers.len() < NUMBERS
 }
 
-pub fn put_fields(it: Record, fields: &mut [u32])
+fn put_fields(it: Record, fields: &mut [u32])
     requires { ⌜ 6 ≤ length (now fields) ⌝ }
     ensures { λ _. ⌜ now (fields .exit) ≡ over (flatFields it) (now (fields .entry)) ⌝ }
 {
@@ -106,7 +107,7 @@ pub fn put_fields(it: Record, fields: &mut [u32])
     fields[5] = flat.reset;
 }
 
-pub fn put_numbers(it: Record, numbers: &mut [f64])
+fn put_numbers(it: Record, numbers: &mut [f64])
     requires { ⌜ 8 ≤ length (now numbers) ⌝ }
     ensures { λ _. ⌜ now (numbers .exit) ≡ over (flatNumbers it) (now (numbers .entry)) ⌝ }
 {
@@ -121,6 +122,18 @@ pub fn put_numbers(it: Record, numbers: &mut [f64])
     numbers[5] = eight.spl;
     numbers[6] = eight.cp;
     numbers[7] = eight.sp;
+}
+
+// A record's numbers, into the first places; refusal 12 where there are too few.
+pub fn put_record(it: Record, fields: &mut [u32], numbers: &mut [f64]) -> Answer
+    ensures { λ r. ⌜ Puts it (now (fields .entry)) (now (numbers .entry)) r (now (fields .exit)) (now (numbers .exit)) ⌝ }
+{
+    if too_few(fields, numbers) {
+        return Answer::Refused(Refusal::Room);
+    }
+    put_fields(it, fields);
+    put_numbers(it, numbers);
+    Answer::Taken
 }
 
 fn numbers_at(numbers: &[f64]) -> Angles
