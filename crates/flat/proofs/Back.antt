@@ -1,8 +1,8 @@
 -- A record comes back from its numbers: by its gate, the numbers that have to fit do. Assumes nothing.
-use Prim.Native.Nat.{ℕ, _≤_, _<_, _^_}
+use Prim.Native.Nat.{ℕ, _<_, _^_}
 use native.Mathlib.Omega.{arith}
 use mathlib.Core.Option.{some}
-use mathlib.Core.Path.{_≡_, refl}
+use mathlib.Core.Path.{_≡_}
 use borrow.Author.Tests.{le-ltb}
 use Rattle.book.specs.Records.{targetOf}
 use Rattle.book.specs.declared.Gate.{Gate}

@@ -13,7 +13,8 @@ ghost use mathlib.Core.Path.{_≡_};
 ghost use Prim.Native.Nat.{_≤_};
 ghost use lib.ListN.{length};
 ghost use Rattle.book.specs.Records.{readOf};
-ghost use Rattle.flat.specs.Numbers.{two, coded, flatOf, over, flatFields, flatNumbers, tooFew, Puts, numbersAt, madeOf, swapOf, measureOf, gateOf, recordOf};
+ghost use Rattle.flat.specs.Numbers.{two, coded, flatOf, over, flatFields, flatNumbers, tooFew, Puts};
+ghost use Rattle.flat.specs.Numbers.{numbersAt, madeOf, swapOf, measureOf, gateOf, recordOf};
 
 // How many places a record's numbers take.
 const FIELDS: usize = 6;

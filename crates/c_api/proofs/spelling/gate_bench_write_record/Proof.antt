@@ -1,6 +1,6 @@
 -- `c_api::spelling::gate_bench_write_record` writes what the numbers are, and tells how many bytes. Assumes nothing.
 use native.Mathlib.Omega.{arith}
-use mathlib.Core.Path.{refl, sym, ap, _∙_}
+use mathlib.Core.Path.{sym, ap, _∙_}
 use borrow.Author.Needs.{needs}
 use Rattle.c_api.specs.Spelling.{writtenOf}
 use Rattle.c_api.proofs.Spelled.{writes-none, writes, size-fits}
