@@ -1,3 +1,4 @@
--- Answers as numbers, and the contracts of the calls.
+-- Answers as numbers, the contracts of the calls, and demand 3 of the archive.
 pub mod Tells
 pub mod Spelling
+pub mod ExactlyOnce

@@ -9,6 +9,8 @@ use Rattle.book.specs.Sessions as Book
 use Rattle.book.specs.State.{amplitude}
 use Rattle.book.specs.declared.Answer.{Answer}
 use Rattle.book.specs.declared.Matrix.{Matrix}
+use Rattle.sessions.specs.Deliveries.{replies}
+use Rattle.sessions.specs.declared.Reply.{Reply}
 
 -- 0 taken, a refusal's own number, 32 + v a value
 abbrev pub codeOf : Said → ℕ
@@ -20,6 +22,10 @@ codeOf (refused k) = k
 abbrev pub replyOf : Replied → ℕ
 replyOf again = 16
 replyOf (said x) = codeOf x
+
+-- no two replies have one number; a call's answers are among the replies
+abbrev pub TellsApart : Type 0
+TellsApart = (x y : Reply) → replyOf (replies x) ≡ replyOf (replies y) → x ≡ y
 
 -- a session that starts, or refusal 1
 abbrev pub startOf : Option Book.Session → ℕ
