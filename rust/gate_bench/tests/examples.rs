@@ -148,3 +148,43 @@ fn refusals() {
     assert_eq!(bit_flip_noise_apply(&mut [1.0, 0.0], &mut [0.0; 2], 1, 0, noise), Answer::Refused(Refusal::Number));
     assert_eq!(reals, [1.0, 0.0]);
 }
+
+/// Each gate by its own call and by a record: the same answer and the same bits, so no argument is passed in another's place.
+#[test]
+fn calls_and_deliveries_agree() {
+    let angle = Angle { cosine: 0.8, sine: 0.6 };
+    let angles = Angles { ct: 0.8, st: 0.6, cl: 0.96, sl: 0.28, cpl: -0.6, spl: 0.8, cp: 0.28, sp: -0.96 };
+    let forced = Forced { outcome: 1, reset: 1 };
+    let noise = Noise { prob: 0.5, draw: 0.25 };
+    type Call<'a> = (Gate, Box<dyn Fn(&mut [f64], &mut [f64]) -> Answer + 'a>);
+    let calls: [Call; 13] = [
+        (Gate::H(2, 1), Box::new(|re, im| h_apply(re, im, 3, 2, 1))),
+        (Gate::X(0, 6), Box::new(|re, im| x_apply(re, im, 3, 0, 6))),
+        (Gate::Y(1, 4), Box::new(|re, im| y_apply(re, im, 3, 1, 4))),
+        (Gate::Z(2, 0), Box::new(|re, im| z_apply(re, im, 3, 2, 0))),
+        (Gate::P(0, 2, angle), Box::new(|re, im| p_apply(re, im, 3, 0, 2, angle))),
+        (Gate::Rx(1, 5, angle), Box::new(|re, im| rx_apply(re, im, 3, 1, 5, angle))),
+        (Gate::Ry(2, 1, angle), Box::new(|re, im| ry_apply(re, im, 3, 2, 1, angle))),
+        (Gate::Rz(0, 4, angle), Box::new(|re, im| rz_apply(re, im, 3, 0, 4, angle))),
+        (Gate::U(1, 1, angles), Box::new(|re, im| u_apply(re, im, 3, 1, 1, angles))),
+        (Gate::Swap(0, 2), Box::new(|re, im| swap_apply(re, im, 3, 0, 2))),
+        (Gate::Measure(1, forced), Box::new(|re, im| measure_qubit(re, im, 3, 1, forced))),
+        (Gate::BitFlip(2, noise), Box::new(|re, im| bit_flip_noise_apply(re, im, 3, 2, noise))),
+        (Gate::U(1, 2, angles), Box::new(|re, im| u_apply(re, im, 3, 1, 2, angles))),
+    ];
+    for (gate, call) in calls {
+        let start = ([0.5, 0.1, -0.2, 0.3, 0.4, -0.1, 0.2, 0.35], [0.05, -0.15, 0.25, 0.1, -0.3, 0.2, 0.15, -0.05]);
+        let (mut called, mut delivered) = (start, start);
+        let answer = call(&mut called.0, &mut called.1);
+        let mut session = Session::start(3, 9).expect("three qubits");
+        let reply = session.deliver(&bytes(&Record { session: 9, number: 0, gate }), &mut delivered.0, &mut delivered.1);
+        let expected = match answer {
+            Answer::Taken => Reply::Taken,
+            Answer::Value(value) => Reply::Value(value),
+            Answer::Refused(refusal) => Reply::Refused(refusal),
+        };
+        assert_eq!(reply, expected, "{gate:?}");
+        assert_eq!((bits(&called.0), bits(&called.1)), (bits(&delivered.0), bits(&delivered.1)), "{gate:?}");
+        assert_eq!(called == start, matches!(answer, Answer::Refused(_)), "{gate:?}");
+    }
+}
