@@ -8,7 +8,8 @@
  * A state of n qubits is two buffers of 2^n doubles, real and imaginary parts; a matrix two of 4^n, row by row.
  * A slice is passed as a pointer and a length in elements. What the caller answers for: the pointer is not NULL and is
  * aligned, that many elements are there, nothing that a call writes overlaps another of its buffers, and no other thread
- * touches them meanwhile. Everything else is proved (crates/c_api): each call's number and every place that it writes.
+ * touches them meanwhile. Everything else is proved (crates/c_api): each call's number and every place that it writes, up to
+ * a NaN's payload, which nothing fixes.
  * Link with the archive alone; it calls nothing but itself. It is x86-64 code. */
 #ifndef GATE_BENCH_H
 #define GATE_BENCH_H
