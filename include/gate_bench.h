@@ -47,8 +47,8 @@ uint32_t gate_bench_start(uint32_t n, uint32_t number);
 
 /* One delivery: the bytes are read as a record and, if its number is the count, run on the state; the count is then one
  * higher. A lower number answers 16, a higher one 10. Refusals in the order 1, 2, 8, 9, 11, (16), 10, 3 to 7. */
-uint32_t gate_bench_deliver(uint32_t n, uint32_t number, uint16_t *count, const uint8_t *bytes, size_t bytes_len,
-                            double *reals, size_t reals_len, double *imags, size_t imags_len);
+uint32_t gate_bench_deliver(uint32_t n, uint32_t number, uint16_t *count, const uint8_t *bytes, size_t bytes_len, double *reals,
+                            size_t reals_len, double *imags, size_t imags_len);
 
 /* ---- gates: ones has a bit set for each control */
 
@@ -69,40 +69,44 @@ uint32_t gate_bench_p_apply(double *reals, size_t reals_len, double *imags, size
                             uint32_t ones, double cosine, double sine);
 /* Rotation about x, from cosine and sine of the half angle; any number of controls. */
 uint32_t gate_bench_rx_apply(double *reals, size_t reals_len, double *imags, size_t imags_len, uint32_t n, uint32_t target,
-                             uint32_t ones, double cosine, double sine);
+                            uint32_t ones, double cosine, double sine);
 /* Rotation about y, from cosine and sine of the half angle; any number of controls. */
 uint32_t gate_bench_ry_apply(double *reals, size_t reals_len, double *imags, size_t imags_len, uint32_t n, uint32_t target,
-                             uint32_t ones, double cosine, double sine);
+                            uint32_t ones, double cosine, double sine);
 /* Rotation about z, from cosine and sine of the half angle; up to one control. */
 uint32_t gate_bench_rz_apply(double *reals, size_t reals_len, double *imags, size_t imags_len, uint32_t n, uint32_t target,
-                             uint32_t ones, double cosine, double sine);
+                            uint32_t ones, double cosine, double sine);
 /* U, from its eight numbers: cosine and sine of theta/2, lambda, phi + lambda and phi; up to one control. */
-uint32_t gate_bench_u_apply(double *reals, size_t reals_len, double *imags, size_t imags_len, uint32_t n, uint32_t target, uint32_t ones,
-                            double ct, double st, double cl, double sl, double cpl, double spl, double cp, double sp);
+uint32_t gate_bench_u_apply(double *reals, size_t reals_len, double *imags, size_t imags_len, uint32_t n, uint32_t target,
+                            uint32_t ones, double ct, double st, double cl, double sl, double cpl, double spl, double cp,
+                            double sp);
 /* The qubits t0 and t1 exchanged. */
 uint32_t gate_bench_swap_apply(double *reals, size_t reals_len, double *imags, size_t imags_len, uint32_t n, uint32_t t0,
-                               uint32_t t1);
+                            uint32_t t1);
 /* X if draw <= prob, else nothing; the value is 1 if X ran. */
 uint32_t gate_bench_bit_flip_noise_apply(double *reals, size_t reals_len, double *imags, size_t imags_len, uint32_t n,
-                                         uint32_t target, double prob, double draw);
+                            uint32_t target, double prob, double draw);
 
 /* A measurement whose outcome (0 or 1) is forced; with reset 1 the qubit is set back to 0. The value is the outcome. */
 uint32_t gate_bench_measure_qubit(double *reals, size_t reals_len, double *imags, size_t imags_len, uint32_t n, uint32_t target,
-                                  uint8_t outcome, uint8_t reset);
+                            uint8_t outcome, uint8_t reset);
 
 /* ---- matrices of side 2^n, n from 1 to 6 */
 
 /* The matrix of a gate on the target, from the gate's own four entries, row by row. */
-uint32_t gate_bench_from_single_qubit_gate(double *reals, size_t reals_len, double *imags, size_t imags_len, uint32_t n, uint32_t target,
-                                           double re00, double im00, double re01, double im01, double re10, double im10, double re11, double im11);
+uint32_t gate_bench_from_single_qubit_gate(double *reals, size_t reals_len, double *imags, size_t imags_len, uint32_t n,
+                            uint32_t target, double re00, double im00, double re01, double im01, double re10, double im10,
+                            double re11, double im11);
 /* The conjugate transpose, in place. */
 uint32_t gate_bench_conj_t(double *reals, size_t reals_len, double *imags, size_t imags_len, uint32_t n);
 /* A times B, into buffers of their own. */
 uint32_t gate_bench_multiply(const double *ar, size_t ar_len, const double *ai, size_t ai_len, const double *br, size_t br_len,
-                             const double *bi, size_t bi_len, double *reals, size_t reals_len, double *imags, size_t imags_len, uint32_t n);
+                            const double *bi, size_t bi_len, double *reals, size_t reals_len, double *imags, size_t imags_len,
+                            uint32_t n);
 /* A times the state S, into buffers of their own. */
-uint32_t gate_bench_apply_unitary(const double *ar, size_t ar_len, const double *ai, size_t ai_len, const double *sr, size_t sr_len,
-                                  const double *si, size_t si_len, double *reals, size_t reals_len, double *imags, size_t imags_len, uint32_t n);
+uint32_t gate_bench_apply_unitary(const double *ar, size_t ar_len, const double *ai, size_t ai_len, const double *sr,
+                            size_t sr_len, const double *si, size_t si_len, double *reals, size_t reals_len, double *imags,
+                            size_t imags_len, uint32_t n);
 
 /* ---- records: six whole numbers and eight doubles. What a gate does not have is read as 0, and not looked at on writing */
 
@@ -121,12 +125,12 @@ enum gate_bench_field {
 /* The bytes as a record, into the first six fields and the first eight numbers. 8 if they are no record, and then 12 if fewer
  * places are lent. */
 uint32_t gate_bench_read_record(const uint8_t *bytes, size_t bytes_len, uint32_t *fields, size_t fields_len, double *numbers,
-                                size_t numbers_len);
+                            size_t numbers_len);
 /* The record's bytes, into the first places of out: answers how many (24 to 94). 8 if there are fewer than six fields or eight
  * numbers, or the code is not 1 to 12, or the number is above 65535, or the target, SWAP's second qubit, an outcome or a reset
  * above 255; and then 12 if out is too short. */
 uint32_t gate_bench_write_record(const uint32_t *fields, size_t fields_len, const double *numbers, size_t numbers_len,
-                                 uint8_t *out, size_t out_len);
+                            uint8_t *out, size_t out_len);
 
 /* ---- numbers */
 
