@@ -1,0 +1,56 @@
+-- `c_api::spelling::gate_bench_write_record` writes what the numbers are, and tells how many bytes. Assumes nothing.
+use native.Mathlib.Omega.{arith}
+use mathlib.Core.Path.{sym, ap, _∙_}
+use borrow.Author.Needs.{needs}
+use Rattle.c_api.specs.Spelling.{writtenOf}
+use Rattle.c_api.proofs.Spelled.{writes-none, writes, size-fits}
+use Rattle.c_api.proofs.spelling.gate_bench_write_record.Statement.{statement}
+use Rattle.c_api.proofs.spelling.gate_bench_write_record.Tie as tie
+
+cast-result : tie.Need-cast-result
+cast-result c =
+    let sized = c .before in
+    let wrote = sized .before .before .before .before in
+    let read = wrote .before .before .before in
+    let out = read .before .before .before .before .before .before .args .out .now in
+    omega (arith, size-fits (read .it .given .0 .0) out (sym (wrote .write-record .ensures .0) ∙ sized .size .given .1))
+
+returns : tie.Need-returns
+returns c =
+    let sized = c .before in
+    let wrote = sized .before .before .before .before in
+    let read = wrote .before .before .before in
+    writes _ _ (sym (read .before .before .record-of .ensures) ∙ read .it .given .1)
+    (wrote .write-record .ensures .0) (wrote .write-record .ensures .1) (sym (ap writtenOf (sized .size .given .1)))
+
+returns-2 : tie.Need-returns-2
+returns-2 c =
+    let told = c .before .before in
+    let wrote = told .before .before .before .before in
+    let read = wrote .before .before .before in
+    writes _ _ (sym (read .before .before .record-of .ensures) ∙ read .it .given .1)
+    (wrote .write-record .ensures .0) (wrote .write-record .ensures .1) (c .number-of .ensures ∙ sym (ap writtenOf (told .refusal .given .1)))
+
+returns-3 : tie.Need-returns-3
+returns-3 c =
+    let unread = c .before .before in
+    writes-none _ _ (sym (unread .before .before .record-of .ensures) ∙ unread .refusal2 .given .1) (c .number-of2 .ensures)
+
+pub gate-bench-write-record-spec : {M : Type 1} → statement M
+gate-bench-write-record-spec =
+    tie.close
+    (tie.spec
+    (λ c κs. search needs)
+    (λ c. search needs)
+    (λ c κs. search needs)
+    (λ c. search needs)
+    cast-result
+    (λ c. search needs)
+    (λ c κs. search needs)
+    (λ c. search needs)
+    (λ c κs. search needs)
+    (λ c. search needs)
+    returns
+    (λ c. search needs)
+    returns-2
+    returns-3)

@@ -1,0 +1,44 @@
+// Sessions. A session is three numbers that the caller keeps: n, its own number, and the count, which a delivery writes back.
+use crate::answers::TAKEN;
+use crate::answers::number_of;
+use crate::answers::tell_reply;
+use sessions::Session;
+use sessions::Started;
+ghost use mathlib.Core.Path.{_≡_};
+ghost use Rattle.book.specs.Answers.{buffers};
+ghost use Rattle.book.specs.Sessions as Book;
+ghost use Rattle.c_api.specs.Tells.{startOf, TellsDelivery};
+
+// Whether a session of n qubits can start.
+#[no_mangle]
+pub extern "C" fn gate_bench_start(n: u32, number: u32) -> u32
+    ensures { λ r. ⌜ r ≡ startOf (Book.start n number) ⌝ }
+{
+    match Session::start(n, number) {
+        Started::Fresh(_) => TAKEN,
+        Started::Refused(refusal) => number_of(refusal),
+    }
+}
+
+// One delivery.
+#[no_mangle]
+pub extern "C" fn gate_bench_deliver(
+    n: u32,
+    number: u32,
+    count: &mut u16,
+    bytes: &[u8],
+    reals: &mut [f64],
+    imags: &mut [f64],
+) -> u32
+    ensures { λ r. ⌜ TellsDelivery (Book.deliver (Book.session n number (now (count .entry))) (buffers (now (reals .entry)) (now (imags .entry))) (now (bytes .entry))) r (now (count .exit)) (buffers (now (reals .exit)) (now (imags .exit))) ⌝ }
+{
+    let session = Session {
+        n,
+        number,
+        count: *count,
+    };
+    let delivered = session.deliver(bytes, reals, imags);
+    *count = delivered.count;
+    let reply = delivered.reply;
+    tell_reply(reply)
+}

@@ -1,0 +1,70 @@
+-- The record that flat numbers are, test by test, as the code takes them. Assumes nothing.
+use Prim.Native.Nat.{ℕ, _≤_, _<_}
+use native.Mathlib.Omega.{arith}
+use mathlib.Core.Bool.{Bool, true, false, _||_}
+use mathlib.Core.List.{List}
+use mathlib.Core.Option.{Option, some, none}
+use mathlib.Core.Path.{_≡_, refl, sym, ap, _∙_}
+use lib.Dec.{ltb}
+use lib.Ieee.{Float}
+use lib.ListN.{length, getD}
+use borrow.Author.Tests.{ltb-false, lt-ltb, le-ltb}
+use Rattle.book.specs.Records.{made, readOf}
+use Rattle.book.specs.declared.Angles.{Angles}
+use Rattle.book.specs.declared.Gate.{Gate}
+use Rattle.book.specs.declared.Read.the-variants.{Record as Found, Refused as Unread}
+use Rattle.book.specs.declared.Refusal.the-variants.{Record as NoRecord}
+use Rattle.flat.specs.Numbers.{tooFew, gateOf, numbersAt, madeOf, recordOf}
+use Rattle.flat.specs.declared.Made.{Made}
+use Rattle.flat.specs.declared.Made.the-variants.{Gate as Whole, Missing}
+
+module _ (fs : List ℕ) (xs : List Float) where
+  pub enough : tooFew fs xs ≡ false → (6 ≤ length fs) × (8 ≤ length xs)
+  unfolding tooFew
+  enough = by (ltb (length fs) 6) refl
+    where
+      by : (t : Bool) → ltb (length fs) 6 ≡ t → (t || ltb (length xs) 8) ≡ false → (6 ≤ length fs) × (8 ≤ length xs)
+      by true e f = let z : _≡_ {A = ℕ} 0 1 = cc in absurd (omega arith)
+      by false e f = (ltb-false _ _ e, ltb-false _ _ f)
+
+  pub few : tooFew fs xs ≡ true → Unread NoRecord ≡ readOf (recordOf fs xs)
+  unfolding recordOf
+  few e = rw e
+
+  module _ (e : tooFew fs xs ≡ false) where
+    pub no-number : 65535 < getD fs 1 0 → Unread NoRecord ≡ readOf (recordOf fs xs)
+    unfolding recordOf
+    no-number h = rw (e, lt-ltb 65535 (getD fs 1 0) h)
+
+    module _ (fits : getD fs 1 0 ≤ 65535) where
+      pub no-target : 255 < getD fs 3 0 → Unread NoRecord ≡ readOf (recordOf fs xs)
+      unfolding recordOf
+      no-target h = rw (e, le-ltb 65535 (getD fs 1 0) fits, lt-ltb 255 (getD fs 3 0) h)
+
+      module _ (byte : getD fs 3 0 ≤ 255) where
+        abbrev gate : Angles → Option Gate
+        gate eight = gateOf (getD fs 2 0) (getD fs 3 0) (getD fs 4 0) (getD fs 5 0) eight
+
+        judged : recordOf fs xs ≡ made (getD fs 0 0) (getD fs 1 0) (gate (numbersAt xs))
+        unfolding recordOf
+        judged = rw (e, le-ltb 65535 (getD fs 1 0) fits, le-ltb 255 (getD fs 3 0) byte)
+
+        no-made : (o : Option Gate) → madeOf o ≡ Missing → Unread NoRecord ≡ readOf (made (getD fs 0 0) (getD fs 1 0) o)
+        no-made (some g) q = let z : _≡_ {A = ℕ} 0 1 = cc in absurd (omega arith)
+        no-made none q = refl
+
+        a-made : (g : Gate) (o : Option Gate) → madeOf o ≡ Whole g
+            → Found (record { session = getD fs 0 0; number = getD fs 1 0; gate = g }) ≡ readOf (made (getD fs 0 0) (getD fs 1 0) o)
+        a-made g (some h) q = cc
+        a-made g none q = let z : _≡_ {A = ℕ} 0 1 = cc in absurd (omega arith)
+
+        module _ {eight : Angles} (is : eight ≡ numbersAt xs) where
+          read : {made : Made} → madeOf (gate eight) ≡ made → madeOf (gate (numbersAt xs)) ≡ made
+          read q = ap (λ (g : Angles). madeOf (gate g)) (sym is) ∙ q
+
+          pub no-gate : madeOf (gate eight) ≡ Missing → Unread NoRecord ≡ readOf (recordOf fs xs)
+          no-gate q = rw judged (no-made (gate (numbersAt xs)) (read q))
+
+          pub a-gate : (g : Gate) → madeOf (gate eight) ≡ Whole g
+              → Found (record { session = getD fs 0 0; number = getD fs 1 0; gate = g }) ≡ readOf (recordOf fs xs)
+          a-gate g q = rw judged (a-made g (gate (numbersAt xs)) (read q))

@@ -1,0 +1,2 @@
+-- Records as flat lists of numbers.
+pub mod Numbers

@@ -1,0 +1,170 @@
+/* The gate bench for C: the calls of libc_api.a, which `rt staticlib c_api` writes to target/staticlib/.
+ *
+ * Every call takes any numbers and any bytes, ends, and answers with one number:
+ *   0        taken
+ *   1 to 12  refused, with the rule book's number (GATE_BENCH_REFUSED_...); then nothing has changed
+ *   16       AGAIN: a delivery's record was run before, and nothing has changed
+ *   32 + v   taken, with the value v (0 or 1) of a measurement or a bit flip
+ * A state of n qubits is two buffers of 2^n doubles, real and imaginary parts; a matrix two of 4^n, row by row.
+ * A slice is passed as a pointer and a length in elements. What the caller answers for: the pointer is not NULL and is
+ * aligned, that many elements are there, nothing that a call writes overlaps another of its buffers, and no other thread
+ * touches them meanwhile. Everything else is proved (crates/c_api): each call's number and every place that it writes, up to
+ * a NaN's payload, which nothing fixes.
+ * Link with the archive alone; it calls nothing but itself. It is x86-64 code. */
+#ifndef GATE_BENCH_H
+#define GATE_BENCH_H
+
+#include <stddef.h>
+#include <stdint.h>
+
+#ifdef __cplusplus
+extern "C" {
+#endif
+
+enum gate_bench_answer {
+    GATE_BENCH_TAKEN = 0,
+    GATE_BENCH_REFUSED_SIZE = 1,
+    GATE_BENCH_REFUSED_LENGTH = 2,
+    GATE_BENCH_REFUSED_QUBIT = 3,
+    GATE_BENCH_REFUSED_SAME = 4,
+    GATE_BENCH_REFUSED_FORM = 5,
+    GATE_BENCH_REFUSED_NUMBER = 6,
+    GATE_BENCH_REFUSED_CHANCE = 7,
+    GATE_BENCH_REFUSED_RECORD = 8,
+    GATE_BENCH_REFUSED_SESSION = 9,
+    GATE_BENCH_REFUSED_EARLY = 10,
+    GATE_BENCH_REFUSED_FULL = 11,
+    GATE_BENCH_REFUSED_ROOM = 12,
+    GATE_BENCH_AGAIN = 16,
+    GATE_BENCH_VALUE_0 = 32,
+    GATE_BENCH_VALUE_1 = 33
+};
+
+/* ---- sessions */
+
+/* 0 where a session of n qubits can start (n 1 to 24), else 1. A session is n, its number, and a count that starts at 0. */
+uint32_t gate_bench_start(uint32_t n, uint32_t number);
+
+/* One delivery: the bytes are read as a record and, if its number is the count, run on the state; the count is then one
+ * higher. A lower number answers 16, a higher one 10. Refusals in the order 1, 2, 8, 9, 11, (16), 10, 3 to 7. */
+uint32_t gate_bench_deliver(uint32_t n, uint32_t number, uint16_t *count, const uint8_t *bytes, size_t bytes_len, double *reals,
+                            size_t reals_len, double *imags, size_t imags_len);
+
+/* ---- gates: ones has a bit set for each control */
+
+/* s0 and s1 exchanged; any number of controls. */
+uint32_t gate_bench_x_apply(double *reals, size_t reals_len, double *imags, size_t imags_len, uint32_t n, uint32_t target,
+                            uint32_t ones);
+/* Y; up to one control. */
+uint32_t gate_bench_y_apply(double *reals, size_t reals_len, double *imags, size_t imags_len, uint32_t n, uint32_t target,
+                            uint32_t ones);
+/* Z; no controls. */
+uint32_t gate_bench_z_apply(double *reals, size_t reals_len, double *imags, size_t imags_len, uint32_t n, uint32_t target,
+                            uint32_t ones);
+/* Hadamard; up to one control. */
+uint32_t gate_bench_h_apply(double *reals, size_t reals_len, double *imags, size_t imags_len, uint32_t n, uint32_t target,
+                            uint32_t ones);
+/* Phase, from cosine and sine of the angle; any number of controls. */
+uint32_t gate_bench_p_apply(double *reals, size_t reals_len, double *imags, size_t imags_len, uint32_t n, uint32_t target,
+                            uint32_t ones, double cosine, double sine);
+/* Rotation about x, from cosine and sine of the half angle; any number of controls. */
+uint32_t gate_bench_rx_apply(double *reals, size_t reals_len, double *imags, size_t imags_len, uint32_t n, uint32_t target,
+                            uint32_t ones, double cosine, double sine);
+/* Rotation about y, from cosine and sine of the half angle; any number of controls. */
+uint32_t gate_bench_ry_apply(double *reals, size_t reals_len, double *imags, size_t imags_len, uint32_t n, uint32_t target,
+                            uint32_t ones, double cosine, double sine);
+/* Rotation about z, from cosine and sine of the half angle; up to one control. */
+uint32_t gate_bench_rz_apply(double *reals, size_t reals_len, double *imags, size_t imags_len, uint32_t n, uint32_t target,
+                            uint32_t ones, double cosine, double sine);
+/* U, from its eight numbers: cosine and sine of theta/2, lambda, phi + lambda and phi; up to one control. */
+uint32_t gate_bench_u_apply(double *reals, size_t reals_len, double *imags, size_t imags_len, uint32_t n, uint32_t target,
+                            uint32_t ones, double ct, double st, double cl, double sl, double cpl, double spl, double cp,
+                            double sp);
+/* The qubits t0 and t1 exchanged. */
+uint32_t gate_bench_swap_apply(double *reals, size_t reals_len, double *imags, size_t imags_len, uint32_t n, uint32_t t0,
+                            uint32_t t1);
+/* X if draw <= prob, else nothing; the value is 1 if X ran. */
+uint32_t gate_bench_bit_flip_noise_apply(double *reals, size_t reals_len, double *imags, size_t imags_len, uint32_t n,
+                            uint32_t target, double prob, double draw);
+
+/* A measurement whose outcome (0 or 1) is forced; with reset 1 the qubit is set back to 0. The value is the outcome. */
+uint32_t gate_bench_measure_qubit(double *reals, size_t reals_len, double *imags, size_t imags_len, uint32_t n, uint32_t target,
+                            uint8_t outcome, uint8_t reset);
+
+/* ---- matrices of side 2^n, n from 1 to 6 */
+
+/* The matrix of a gate on the target, from the gate's own four entries, row by row. */
+uint32_t gate_bench_from_single_qubit_gate(double *reals, size_t reals_len, double *imags, size_t imags_len, uint32_t n,
+                            uint32_t target, double re00, double im00, double re01, double im01, double re10, double im10,
+                            double re11, double im11);
+/* The conjugate transpose, in place. */
+uint32_t gate_bench_conj_t(double *reals, size_t reals_len, double *imags, size_t imags_len, uint32_t n);
+/* A times B, into buffers of their own. */
+uint32_t gate_bench_multiply(const double *ar, size_t ar_len, const double *ai, size_t ai_len, const double *br, size_t br_len,
+                            const double *bi, size_t bi_len, double *reals, size_t reals_len, double *imags, size_t imags_len,
+                            uint32_t n);
+/* A times the state S, into buffers of their own. */
+uint32_t gate_bench_apply_unitary(const double *ar, size_t ar_len, const double *ai, size_t ai_len, const double *sr,
+                            size_t sr_len, const double *si, size_t si_len, double *reals, size_t reals_len, double *imags,
+                            size_t imags_len, uint32_t n);
+
+/* ---- records: six whole numbers and eight doubles. What a gate does not have is read as 0, and not looked at on writing */
+
+enum gate_bench_field {
+    GATE_BENCH_FIELD_SESSION = 0,
+    GATE_BENCH_FIELD_NUMBER = 1,
+    GATE_BENCH_FIELD_CODE = 2,   /* H 1, X 2, Y 3, Z 4, P 5, RX 6, RY 7, RZ 8, U 9, SWAP 10, measurement 11, bit flip 12 */
+    GATE_BENCH_FIELD_TARGET = 3,
+    GATE_BENCH_FIELD_SECOND = 4, /* the controls' mask; SWAP's second qubit; a measurement's outcome */
+    GATE_BENCH_FIELD_RESET = 5,  /* a measurement's reset */
+    GATE_BENCH_FIELDS = 6,
+    GATE_BENCH_NUMBERS = 8,      /* U's eight; else cosine and sine, or prob and draw, in the first two */
+    GATE_BENCH_RECORD_MOST = 94  /* bytes of the longest record, U's */
+};
+
+/* The bytes as a record, into the first six fields and the first eight numbers. 8 if they are no record, and then 12 if fewer
+ * places are lent. */
+uint32_t gate_bench_read_record(const uint8_t *bytes, size_t bytes_len, uint32_t *fields, size_t fields_len, double *numbers,
+                            size_t numbers_len);
+/* The record's bytes, into the first places of out: answers how many (24 to 94). 8 if there are fewer than six fields or eight
+ * numbers, or the code is not 1 to 12, or the number is above 65535, or the target, SWAP's second qubit, an outcome or a reset
+ * above 255; and then 12 if out is too short. */
+uint32_t gate_bench_write_record(const uint32_t *fields, size_t fields_len, const double *numbers, size_t numbers_len,
+                            uint8_t *out, size_t out_len);
+
+/* ---- numbers */
+
+/* F: x*y + z, rounded once. */
+double gate_bench_fused(double x, double y, double z);
+/* The square root, rounded once. */
+double gate_bench_root(double x);
+
+/* ---- for convenience: a session's three numbers in one place */
+
+struct gate_bench_session {
+    uint32_t n;
+    uint32_t number;
+    uint16_t count;
+};
+
+/* 0 and a session whose count is 0, or 1 and the session as it was. */
+static inline uint32_t gate_bench_session_start(struct gate_bench_session *session, uint32_t n, uint32_t number) {
+    uint32_t answer = gate_bench_start(n, number);
+    if (answer == GATE_BENCH_TAKEN) {
+        session->n = n;
+        session->number = number;
+        session->count = 0;
+    }
+    return answer;
+}
+
+/* One delivery to a session whose state has `places` places in each buffer. */
+static inline uint32_t gate_bench_session_deliver(struct gate_bench_session *session, const uint8_t *bytes, size_t bytes_len,
+                                                  double *reals, double *imags, size_t places) {
+    return gate_bench_deliver(session->n, session->number, &session->count, bytes, bytes_len, reals, places, imags, places);
+}
+
+#ifdef __cplusplus
+}
+#endif
+#endif

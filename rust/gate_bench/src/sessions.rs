@@ -1,0 +1,39 @@
+//! Sessions: however often a record comes, it is run once.
+use crate::answers::{refusal, Refusal, Reply};
+use crate::ffi;
+
+/// n qubits, the session's number, and the count of records taken. The state stands in the caller's buffers.
+#[derive(Debug)]
+pub struct Session {
+    n: u32,
+    number: u32,
+    count: u16,
+}
+
+impl Session {
+    /// n is 1 to 24.
+    pub fn start(n: u32, number: u32) -> Result<Session, Refusal> {
+        match refusal(ffi::start(n, number)) {
+            Some(refused) => Err(refused),
+            None => Ok(Session { n, number, count: 0 }),
+        }
+    }
+
+    /// One delivery: the bytes are read as a record and, if its number is the count, run on the state.
+    pub fn deliver(&mut self, bytes: &[u8], reals: &mut [f64], imags: &mut [f64]) -> Reply {
+        Reply::of(ffi::deliver(self.n, self.number, &mut self.count, bytes, reals, imags))
+    }
+
+    pub fn n(&self) -> u32 {
+        self.n
+    }
+
+    pub fn number(&self) -> u32 {
+        self.number
+    }
+
+    /// How many records were taken.
+    pub fn count(&self) -> u16 {
+        self.count
+    }
+}

@@ -1,0 +1,190 @@
+//! Document 01's twelve examples by the archive's calls, and what the safe layer adds: names of answers, records there and back.
+use gate_bench::*;
+
+fn bits(numbers: &[f64]) -> Vec<u64> {
+    numbers.iter().map(|x| x.to_bits()).collect()
+}
+
+fn eight() -> ([f64; 8], [f64; 8]) {
+    ([1.0, 2.0, 3.0, 4.0, 5.0, 6.0, 7.0, 8.0], [0.0; 8])
+}
+
+fn bytes(record: &Record) -> Vec<u8> {
+    let mut out = [0; RECORD_MOST];
+    let size = write_record(record, &mut out).expect("there is room for any record");
+    out[..size].to_vec()
+}
+
+fn x_numbered(number: u16) -> Vec<u8> {
+    bytes(&Record { session: 7, number, gate: Gate::X(0, 0) })
+}
+
+#[test]
+fn fused_and_root() {
+    let half = f64::from_bits(0x3FE0000000000000);
+    let least = f64::from_bits(1);
+    let near = fused(f64::from_bits(0x3FF0000000000001), f64::from_bits(0x3FEFFFFFFFFFFFFE), -1.0);
+    assert_eq!(near.to_bits(), 0xB970000000000000);
+    assert_eq!(fused(least, half, 0.0).to_bits(), 0);
+    assert_eq!(fused(least, 0.75, 0.0).to_bits(), 1);
+    assert_eq!(root(2.0).to_bits(), 0x3FF6A09E667F3BCD);
+}
+
+#[test]
+fn gates() {
+    let (mut reals, mut imags) = ([1.0, 2.0, 3.0, 4.0], [0.0; 4]);
+    assert_eq!(x_apply(&mut reals, &mut imags, 2, 0, 2), Answer::Taken);
+    assert_eq!(reals, [1.0, 2.0, 4.0, 3.0]);
+
+    let (mut reals, mut imags) = eight();
+    assert_eq!(x_apply(&mut reals, &mut imags, 3, 2, 1), Answer::Taken);
+    assert_eq!(reals, [1.0, 6.0, 3.0, 8.0, 5.0, 2.0, 7.0, 4.0]);
+
+    let (mut reals, mut imags) = ([1.0, 3.0], [2.0, 4.0]);
+    assert_eq!(y_apply(&mut reals, &mut imags, 1, 0, 0), Answer::Taken);
+    assert_eq!((reals, imags), ([4.0, -2.0], [-3.0, 1.0]));
+
+    let (mut reals, mut imags) = ([1.0, 0.0], [0.0; 2]);
+    assert_eq!(h_apply(&mut reals, &mut imags, 1, 0, 0), Answer::Taken);
+    assert_eq!(h_apply(&mut reals, &mut imags, 1, 0, 0), Answer::Taken);
+    assert_eq!(reals[0].to_bits(), 0x3FF0000000000001);
+
+    let (mut reals, mut imags) = eight();
+    assert_eq!(swap_apply(&mut reals, &mut imags, 3, 0, 2), Answer::Taken);
+    assert_eq!(reals, [1.0, 5.0, 3.0, 7.0, 2.0, 6.0, 4.0, 8.0]);
+}
+
+#[test]
+fn measuring() {
+    let (mut reals, mut imags) = ([0.5, 0.5], [0.0; 2]);
+    let forced = Forced { outcome: 0, reset: 0 };
+    assert_eq!(measure_qubit(&mut reals, &mut imags, 1, 0, forced), Answer::Value(0));
+    assert_eq!(bits(&reals), bits(&[1.0, 0.0]));
+    let forced = Forced { outcome: 1, reset: 0 };
+    assert_eq!(measure_qubit(&mut reals, &mut imags, 1, 0, forced), Answer::Refused(Refusal::Chance));
+}
+
+#[test]
+fn matrices() {
+    let entry = |re, im| Amplitude { re, im };
+    let y = [entry(0.0, 0.0), entry(0.0, -1.0), entry(0.0, 1.0), entry(0.0, 0.0)];
+    let (mut ar, mut ai) = ([9.0; 4], [9.0; 4]);
+    assert_eq!(from_single_qubit_gate(&mut ar, &mut ai, 1, 0, y), Answer::Taken);
+    assert_eq!((ar, ai), ([0.0; 4], [0.0, -1.0, 1.0, 0.0]));
+    let (mut reals, mut imags) = ([9.0; 4], [9.0; 4]);
+    assert_eq!(multiply(&ar, &ai, &ar, &ai, &mut reals, &mut imags, 1), Answer::Taken);
+    assert_eq!((reals, imags), ([1.0, 0.0, 0.0, 1.0], [0.0; 4]));
+    let (mut reals, mut imags) = ([9.0; 2], [9.0; 2]);
+    assert_eq!(apply_unitary(&ar, &ai, &[1.0, 3.0], &[2.0, 4.0], &mut reals, &mut imags, 1), Answer::Taken);
+    assert_eq!((reals, imags), ([4.0, -2.0], [-3.0, 1.0]));
+    assert_eq!(conj_t(&mut ar, &mut ai, 1), Answer::Taken);
+    assert_eq!(ai, [0.0, -1.0, 1.0, 0.0]);
+    assert_eq!(conj_t(&mut ar, &mut ai, 7), Answer::Refused(Refusal::Size));
+}
+
+#[test]
+fn records() {
+    let x = Record { session: 7, number: 0, gate: Gate::X(1, 4) };
+    let spelled = [1, 0, 4, 0, 0, 0, 7, 2, 0, 2, 0, 0, 3, 0, 1, 2, 4, 0, 1, 1, 5, 0, 4, 0, 0, 0, 4];
+    assert_eq!(bytes(&x), spelled);
+    assert_eq!(read_record(&spelled), Ok(x));
+    assert_eq!(read_record(&spelled[1..]), Err(Refusal::Record));
+    assert_eq!(write_record(&x, &mut [0; 26]), Err(Refusal::Room));
+}
+
+#[test]
+fn records_there_and_back() {
+    let angle = Angle { cosine: 0.6, sine: -0.8 };
+    let angles = Angles { ct: 1.0, st: 2.0, cl: 3.0, sl: 4.0, cpl: 5.0, spl: 6.0, cp: 7.0, sp: 8.0 };
+    let gates = [
+        Gate::H(1, 2),
+        Gate::X(255, u32::MAX),
+        Gate::Y(3, 4),
+        Gate::Z(5, 6),
+        Gate::P(7, 8, angle),
+        Gate::Rx(9, 10, angle),
+        Gate::Ry(11, 12, angle),
+        Gate::Rz(13, 14, angle),
+        Gate::U(15, 16, angles),
+        Gate::Swap(17, 255),
+        Gate::Measure(18, Forced { outcome: 255, reset: 1 }),
+        Gate::BitFlip(19, Noise { prob: 0.25, draw: -0.0 }),
+    ];
+    for gate in gates {
+        let record = Record { session: 0xFFFFFFFE, number: 65535, gate };
+        assert_eq!(read_record(&bytes(&record)), Ok(record));
+    }
+}
+
+#[test]
+fn deliveries() {
+    let mut session = Session::start(1, 7).expect("one qubit");
+    let (mut reals, mut imags) = ([1.0, 0.0], [0.0; 2]);
+    let mut said = Vec::new();
+    for number in [0, 0, 2, 1] {
+        let reply = session.deliver(&x_numbered(number), &mut reals, &mut imags);
+        said.push((reply, session.count()));
+    }
+    let early = Reply::Refused(Refusal::Early);
+    assert_eq!(said, [(Reply::Taken, 1), (Reply::Again, 1), (early, 1), (Reply::Taken, 2)]);
+    assert_eq!(bits(&reals), bits(&[1.0, 0.0]));
+}
+
+#[test]
+fn refusals() {
+    assert_eq!(Session::start(0, 7).err(), Some(Refusal::Size));
+    assert_eq!(Session::start(25, 7).err(), Some(Refusal::Size));
+    let mut session = Session::start(1, 7).expect("one qubit");
+    let (mut reals, mut imags) = ([1.0, 0.0], [0.0; 2]);
+    let mut deliver = |bytes: &[u8], reals: &mut [f64]| session.deliver(bytes, reals, &mut imags);
+    assert_eq!(deliver(&x_numbered(0), &mut []), Reply::Refused(Refusal::Length));
+    assert_eq!(deliver(&[], &mut reals), Reply::Refused(Refusal::Record));
+    let other = bytes(&Record { session: 8, number: 0, gate: Gate::X(0, 0) });
+    assert_eq!(deliver(&other, &mut reals), Reply::Refused(Refusal::Session));
+    assert_eq!(deliver(&x_numbered(65535), &mut reals), Reply::Refused(Refusal::Full));
+    assert_eq!(x_apply(&mut [1.0, 0.0], &mut [0.0; 2], 1, 1, 0), Answer::Refused(Refusal::Qubit));
+    assert_eq!(x_apply(&mut [1.0, 0.0], &mut [0.0; 2], 1, 0, 1), Answer::Refused(Refusal::Same));
+    let noise = Noise { prob: 0.5, draw: f64::NAN };
+    assert_eq!(bit_flip_noise_apply(&mut [1.0, 0.0], &mut [0.0; 2], 1, 0, noise), Answer::Refused(Refusal::Number));
+    assert_eq!(reals, [1.0, 0.0]);
+}
+
+/// Each gate by its own call and by a record: the same answer and the same bits, so no argument is passed in another's place.
+#[test]
+fn calls_and_deliveries_agree() {
+    let angle = Angle { cosine: 0.8, sine: 0.6 };
+    let angles = Angles { ct: 0.8, st: 0.6, cl: 0.96, sl: 0.28, cpl: -0.6, spl: 0.8, cp: 0.28, sp: -0.96 };
+    let forced = Forced { outcome: 1, reset: 1 };
+    let noise = Noise { prob: 0.5, draw: 0.25 };
+    type Call<'a> = (Gate, Box<dyn Fn(&mut [f64], &mut [f64]) -> Answer + 'a>);
+    let calls: [Call; 13] = [
+        (Gate::H(2, 1), Box::new(|re, im| h_apply(re, im, 3, 2, 1))),
+        (Gate::X(0, 6), Box::new(|re, im| x_apply(re, im, 3, 0, 6))),
+        (Gate::Y(1, 4), Box::new(|re, im| y_apply(re, im, 3, 1, 4))),
+        (Gate::Z(2, 0), Box::new(|re, im| z_apply(re, im, 3, 2, 0))),
+        (Gate::P(0, 2, angle), Box::new(|re, im| p_apply(re, im, 3, 0, 2, angle))),
+        (Gate::Rx(1, 5, angle), Box::new(|re, im| rx_apply(re, im, 3, 1, 5, angle))),
+        (Gate::Ry(2, 1, angle), Box::new(|re, im| ry_apply(re, im, 3, 2, 1, angle))),
+        (Gate::Rz(0, 4, angle), Box::new(|re, im| rz_apply(re, im, 3, 0, 4, angle))),
+        (Gate::U(1, 1, angles), Box::new(|re, im| u_apply(re, im, 3, 1, 1, angles))),
+        (Gate::Swap(0, 2), Box::new(|re, im| swap_apply(re, im, 3, 0, 2))),
+        (Gate::Measure(1, forced), Box::new(|re, im| measure_qubit(re, im, 3, 1, forced))),
+        (Gate::BitFlip(2, noise), Box::new(|re, im| bit_flip_noise_apply(re, im, 3, 2, noise))),
+        (Gate::U(1, 2, angles), Box::new(|re, im| u_apply(re, im, 3, 1, 2, angles))),
+    ];
+    for (gate, call) in calls {
+        let start = ([0.5, 0.1, -0.2, 0.3, 0.4, -0.1, 0.2, 0.35], [0.05, -0.15, 0.25, 0.1, -0.3, 0.2, 0.15, -0.05]);
+        let (mut called, mut delivered) = (start, start);
+        let answer = call(&mut called.0, &mut called.1);
+        let mut session = Session::start(3, 9).expect("three qubits");
+        let reply = session.deliver(&bytes(&Record { session: 9, number: 0, gate }), &mut delivered.0, &mut delivered.1);
+        let expected = match answer {
+            Answer::Taken => Reply::Taken,
+            Answer::Value(value) => Reply::Value(value),
+            Answer::Refused(refusal) => Reply::Refused(refusal),
+        };
+        assert_eq!(reply, expected, "{gate:?}");
+        assert_eq!((bits(&called.0), bits(&called.1)), (bits(&delivered.0), bits(&delivered.1)), "{gate:?}");
+        assert_eq!(called == start, matches!(answer, Answer::Refused(_)), "{gate:?}");
+    }
+}
