@@ -49,9 +49,7 @@ impl Gate {
         match *self {
             Gate::P(angle) => cosine_and_sine(angle),
             Gate::Rx(angle) | Gate::Ry(angle) | Gate::Rz(angle) => cosine_and_sine(angle * 0.5),
-            Gate::U(theta, phi, lambda) => {
-                [theta * 0.5, lambda, phi + lambda, phi].into_iter().flat_map(cosine_and_sine).collect()
-            }
+            Gate::U(theta, phi, lambda) => [theta * 0.5, lambda, phi + lambda, phi].into_iter().flat_map(cosine_and_sine).collect(),
             Gate::BitFlip(prob, k) => vec![prob, k as f64 / 2f64.powi(53)],
             _ => vec![],
         }

@@ -179,6 +179,7 @@ pub fn run(seed: u64) -> bool {
         different += row.different;
         outside += row.nan + row.chance;
     }
-    println!("\nseed {seed}: {cases} cases compared bit for bit, {different} different; {outside} made and left out as outside the domain");
+    println!("\nOutside the domain and not made: a NaN put in, more than one control, two threads, measuring where a square or a partial sum is inexact.");
+    println!("seed {seed}: {cases} cases compared bit for bit, {different} different; {outside} made and left out as outside the domain");
     different == 0
 }

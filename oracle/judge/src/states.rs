@@ -14,12 +14,21 @@ pub enum Kind {
     Exact,
 }
 
-pub const KINDS: [Kind; 8] =
-    [Kind::Ramp, Kind::Unit, Kind::AnyBits, Kind::Edges, Kind::Subnormal, Kind::Zeros, Kind::Cancelling, Kind::Infinite];
+pub const KINDS: [Kind; 8] = [Kind::Ramp, Kind::Unit, Kind::AnyBits, Kind::Edges, Kind::Subnormal, Kind::Zeros, Kind::Cancelling, Kind::Infinite];
 
 const EDGES: [u64; 13] = [
-    0x0000000000000000, 0x0000000000000001, 0x000fffffffffffff, 0x0010000000000000, 0x0010000000000001, 0x3fe6a09e667f3bcd,
-    0x3fefffffffffffff, 0x3ff0000000000000, 0x3ff0000000000001, 0x4340000000000000, 0x5fe0000000000000, 0x7fe0000000000000,
+    0x0000000000000000,
+    0x0000000000000001,
+    0x000fffffffffffff,
+    0x0010000000000000,
+    0x0010000000000001,
+    0x3fe6a09e667f3bcd,
+    0x3fefffffffffffff,
+    0x3ff0000000000000,
+    0x3ff0000000000001,
+    0x4340000000000000,
+    0x5fe0000000000000,
+    0x7fe0000000000000,
     0x7fefffffffffffff,
 ];
 
@@ -65,7 +74,11 @@ fn number(kind: Kind, random: &mut Random, i: usize, size: usize, base: u64) -> 
         }
         Kind::Cancelling => near(random, base),
         Kind::Infinite => {
-            if random.below(6) == 0 { sign(random, 0x7ff0000000000000) } else { random.unit() }
+            if random.below(6) == 0 {
+                sign(random, 0x7ff0000000000000)
+            } else {
+                random.unit()
+            }
         }
         Kind::Exact => (random.below(17) as f64 - 8.0) * exact_unit(size),
     }

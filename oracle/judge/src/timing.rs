@@ -68,5 +68,9 @@ impl Ratios {
 
 /// The mean, or nothing where there is no case.
 pub fn mean_of(ratios: &Ratios) -> String {
-    if ratios.is_empty() { String::new() } else { format!("{:.2}", ratios.mean()) }
+    if ratios.is_empty() {
+        String::new()
+    } else {
+        format!("{:.2}", ratios.mean())
+    }
 }

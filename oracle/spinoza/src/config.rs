@@ -11,7 +11,11 @@ static SECOND: AtomicBool = AtomicBool::new(false);
 
 impl Config {
     pub fn global() -> &'static Config {
-        if SECOND.load(Ordering::Relaxed) { &TWO } else { &ONE }
+        if SECOND.load(Ordering::Relaxed) {
+            &TWO
+        } else {
+            &ONE
+        }
     }
 
     /// For the differences that show only with two threads.

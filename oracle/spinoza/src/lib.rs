@@ -7,10 +7,13 @@ pub mod consts;
 pub mod core;
 pub mod math;
 
+#[rustfmt::skip]
 #[path = "../../../target/oracle/given/gates.rs"]
 pub mod gates;
+#[rustfmt::skip]
 #[path = "../../../target/oracle/given/measurement.rs"]
 pub mod measurement;
+#[rustfmt::skip]
 #[path = "../../../target/oracle/given/unitaries.rs"]
 pub mod unitaries;
 
