@@ -1,20 +1,21 @@
 // The whole program: reads a header and frames from standard input, and prints the lines of document 01 to standard output. The input has
-// any size and comes in any pieces; one frame of it is kept. What is read and printed is proved in stream, and what a delivery does in sessions.
+// any size and comes in any pieces; one frame of it is kept. What is read is proved in frames, what is printed in stream, and what a
+// delivery does in sessions.
 ghost use Prim.Native.Nat.{_<_};
 
-mod frames;
 mod output;
 mod state;
+mod taker;
 
-use frames::Taker;
-use frames::cut_short;
-use frames::take_chunk;
+use frames::Header;
 use output::Output;
 use output::flush;
 use sessions::Session;
 use sessions::Started;
 use state::print_state;
-use stream::Header;
+use taker::Taker;
+use taker::cut_short;
+use taker::take_chunk;
 
 // Only this line.
 fn bad_header() {
@@ -153,7 +154,7 @@ fn run_bench(n: u32, number: u32) {
 pub fn run() {
     let mut head = [0u8; 8];
     let got = io::read_full(libc::STDIN_FILENO, &mut head);
-    let header = stream::read_header(&head[..got]);
+    let header = frames::read_header(&head[..got]);
     match header {
         Header::Good(n, number) => run_bench(n, number),
         Header::Bad => bad_header(),

@@ -10,8 +10,8 @@ use lib.ListN.{length, take, drop, getD}
 use borrow.Author.Tests.{lt-ltb, le-ltb, eq-eqb, ne-eqb, le-leb, lt-leb}
 use Rattle.book.specs.Records.{number, starts}
 use Rattle.wire.proofs.Numbers.{number-more}
-use Rattle.stream.specs.Frames.{headerOf}
-use Rattle.stream.specs.declared.frames.Header.the-variants.{Good, Bad}
+use Rattle.frames.specs.Frames.{headerOf}
+use Rattle.frames.specs.declared.Header.the-variants.{Good, Bad}
 
 and-false : (a : Bool) → a && false ≡ false
 and-false true = refl

@@ -1,9 +1,9 @@
-// The header, and the frame that comes next.
+// What the program reads, over slices: the header, and the frame that comes next.
 ghost use mathlib.Core.Path.{_≡_};
 ghost use Prim.Native.Nat.{ℕ, _+_, _≤_, _<_};
 ghost use lib.ListN.{length, take, drop};
 ghost use Rattle.book.specs.Records.{number};
-ghost use Rattle.stream.specs.Frames.{headerOf, nextOf, unfinished, sized};
+ghost use Rattle.frames.specs.Frames.{headerOf, nextOf, unfinished, sized};
 
 // A header gives n and the session, or is bad.
 pub enum Header {

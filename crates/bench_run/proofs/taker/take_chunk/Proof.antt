@@ -1,10 +1,10 @@
--- `bench_run::frames::take_chunk` is safe and ends: the count of bytes left falls. Assumes nothing.
+-- `bench_run::taker::take_chunk` is safe and ends: the count of bytes left falls. Assumes nothing.
 use Prim.Native.Nat.{_≤_, _-_}
 use mathlib.Core.Path.{_≡_}
 use lib.ListN.{length}
 use borrow.Author.Needs.{needs}
-use Rattle.bench_run.proofs.frames.take_chunk.Statement.{statement}
-use Rattle.bench_run.proofs.frames.take_chunk.Tie as tie
+use Rattle.bench_run.proofs.taker.take_chunk.Statement.{statement}
+use Rattle.bench_run.proofs.taker.take_chunk.Tie as tie
 
 abbrev Inv-loop : tie.InvT-loop
 Inv-loop chunk frame₀ reals₀ imags₀ out₀ taker₀ i₀ frame reals imags out taker i =

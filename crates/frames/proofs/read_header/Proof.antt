@@ -1,12 +1,12 @@
--- `stream::frames::read_header` tests a header in the order of its bytes. Assumes nothing.
+-- `frames::read_header` tests a header in the order of its bytes. Assumes nothing.
 use native.Mathlib.Omega.{arith}
 use mathlib.Core.Bool.{true}
 use mathlib.Core.Path.{_≡_, sym, _∙_}
 use Rattle.book.specs.Records.{starts}
-use Rattle.stream.proofs.Reading.{four-is, too-short, other-tag, other-length, begun, no-qubit, too-many, good, bad-small, good-small}
+use Rattle.frames.proofs.Reading.{four-is, too-short, other-tag, other-length, begun, no-qubit, too-many, good, bad-small, good-small}
 use borrow.Author.Needs.{needs}
-use Rattle.stream.proofs.frames.read_header.Statement.{statement}
-use Rattle.stream.proofs.frames.read_header.Tie as tie
+use Rattle.frames.proofs.read_header.Statement.{statement}
+use Rattle.frames.proofs.read_header.Tie as tie
 
 -- where all of 21 0005 is there
 here : (c : tie.Else3) → starts 0x21 5 (c .before .before .before .before .before .before .args .bytes .now) ≡ true

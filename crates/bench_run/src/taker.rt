@@ -1,10 +1,10 @@
-// The input byte by byte: a frame is collected until stream says what it is, then delivered, or read past.
+// The input byte by byte: a frame is collected until frames says what it is, then delivered, or read past.
 use crate::output::Output;
 use crate::output::print;
 use book::Refusal;
+use frames::Next;
 use sessions::Reply;
 use sessions::Session;
-use stream::Next;
 
 // What is known between two bytes: the session, the next delivery's index, how many bytes of a frame are there, how many of an over-long
 // one are still to be read past, whether the input was cut, whether more is to be read, and where the output ends.
@@ -102,7 +102,7 @@ fn take_frame(
     if frame.len() < have {
         return taker;
     }
-    let next = stream::next_frame(&frame[..have], false);
+    let next = frames::next_frame(&frame[..have], false);
     match next {
         Next::Whole(len) => deliver(taker, len, frame, reals, imags, out),
         Next::Over(len) => waiting(taker, 0, len, false),
@@ -167,7 +167,7 @@ pub fn cut_short(taker: Taker, frame: &[u8]) -> bool {
     if frame.len() < have {
         return true;
     }
-    let next = stream::next_frame(&frame[..have], true);
+    let next = frames::next_frame(&frame[..have], true);
     match next {
         Next::Cut => true,
         _ => false,

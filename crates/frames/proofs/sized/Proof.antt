@@ -1,9 +1,9 @@
--- `stream::frames::sized` tells a frame that is read past from a whole one and a begun one. Assumes nothing.
+-- `frames::sized` tells a frame that is read past from a whole one and a begun one. Assumes nothing.
 use Prim.Native.Nat.{_+_}
 use borrow.Author.Tests.{lt-ltb, le-ltb}
 use borrow.Author.Needs.{needs}
-use Rattle.stream.proofs.frames.sized.Statement.{statement}
-use Rattle.stream.proofs.frames.sized.Tie as tie
+use Rattle.frames.proofs.sized.Statement.{statement}
+use Rattle.frames.proofs.sized.Tie as tie
 
 returns : tie.Need-returns
 returns c = rw (lt-ltb 94 (c .before .args .len) (c .if1 .taken))

@@ -1,10 +1,10 @@
--- `bench_run::frames::cut_short` reads no more of the frame than is there. Assumes nothing.
+-- `bench_run::taker::cut_short` reads no more of the frame than is there. Assumes nothing.
 use native.Mathlib.Omega.{arith}
 use mathlib.Core.Path.{sym}
 use lib.Seq.{length-take-le}
 use borrow.Author.Needs.{needs}
-use Rattle.bench_run.proofs.frames.cut_short.Statement.{statement}
-use Rattle.bench_run.proofs.frames.cut_short.Tie as tie
+use Rattle.bench_run.proofs.taker.cut_short.Statement.{statement}
+use Rattle.bench_run.proofs.taker.cut_short.Tie as tie
 
 returns : tie.Need-returns
 returns c = search needs

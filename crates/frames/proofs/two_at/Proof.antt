@@ -1,11 +1,11 @@
--- `stream::frames::two_at` reads the higher byte first. Assumes nothing.
+-- `frames::two_at` reads the higher byte first. Assumes nothing.
 use Prim.Native.Nat.{_+_}
 use native.Mathlib.Omega.{arith}
 use mathlib.Core.Path.{sym}
-use Rattle.stream.proofs.Reading.{two-is}
+use Rattle.frames.proofs.Reading.{two-is}
 use borrow.Author.Needs.{needs}
-use Rattle.stream.proofs.frames.two_at.Statement.{statement}
-use Rattle.stream.proofs.frames.two_at.Tie as tie
+use Rattle.frames.proofs.two_at.Statement.{statement}
+use Rattle.frames.proofs.two_at.Tie as tie
 
 shared-slice-read-high : tie.Need-shared-slice-read-high
 shared-slice-read-high c = search needs

@@ -1,10 +1,10 @@
--- `bench_run::frames::take_frame` reads no more of the frame than is there. Assumes nothing.
+-- `bench_run::taker::take_frame` reads no more of the frame than is there. Assumes nothing.
 use native.Mathlib.Omega.{arith}
 use mathlib.Core.Path.{sym}
 use lib.Seq.{length-take-le}
 use borrow.Author.Needs.{needs}
-use Rattle.bench_run.proofs.frames.take_frame.Statement.{statement}
-use Rattle.bench_run.proofs.frames.take_frame.Tie as tie
+use Rattle.bench_run.proofs.taker.take_frame.Statement.{statement}
+use Rattle.bench_run.proofs.taker.take_frame.Tie as tie
 
 returns : tie.Need-returns
 returns c = search needs

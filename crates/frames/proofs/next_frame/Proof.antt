@@ -1,11 +1,11 @@
--- `stream::frames::next_frame` tests in the order of the definition: nothing there, the tag, the length, the contents. Assumes nothing.
+-- `frames::next_frame` tests in the order of the definition: nothing there, the tag, the length, the contents. Assumes nothing.
 use mathlib.Core.Path.{ap, _∙_}
 use lib.ListN.{length, getD}
 use borrow.Author.Tests.{eq-eqb, ne-eqb, lt-ltb, le-ltb}
-use Rattle.stream.specs.Frames.{sized}
+use Rattle.frames.specs.Frames.{sized}
 use borrow.Author.Needs.{needs}
-use Rattle.stream.proofs.frames.next_frame.Statement.{statement}
-use Rattle.stream.proofs.frames.next_frame.Tie as tie
+use Rattle.frames.proofs.next_frame.Statement.{statement}
+use Rattle.frames.proofs.next_frame.Tie as tie
 
 returns : tie.Need-returns
 returns c = let a = c .before .before .before .args in rw (eq-eqb (length (a .bytes .now)) 0 (c .before .if1 .taken), c .if2 .taken)

@@ -6,10 +6,10 @@ use lib.Dec.{ltb, eqb}
 use lib.ListN.{length, take, drop, getD}
 use Rattle.book.specs.Kernels.{badSize}
 use Rattle.book.specs.Records.{number, starts}
-use Rattle.stream.specs.declared.frames.Header.{Header}
-use Rattle.stream.specs.declared.frames.Header.the-variants.{Good, Bad}
-use Rattle.stream.specs.declared.frames.Next.{Next}
-use Rattle.stream.specs.declared.frames.Next.the-variants.{Whole, Over, Cut, End, More}
+use Rattle.frames.specs.declared.Header.{Header}
+use Rattle.frames.specs.declared.Header.the-variants.{Good, Bad}
+use Rattle.frames.specs.declared.Next.{Next}
+use Rattle.frames.specs.declared.Next.the-variants.{Whole, Over, Cut, End, More}
 
 -- n is 1 to 11 in the program
 abbrev pub mostQubits : ℕ
