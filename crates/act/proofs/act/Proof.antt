@@ -1,8 +1,8 @@
--- `sessions::act::act` meets its contract: the kernel of each code meets its own. Assumes nothing.
+-- `act::act` meets its contract: the kernel of each code meets its own. Assumes nothing.
 use borrow.Author.Needs.{needs}
 use Rattle.book.specs.Sessions.{act}
-use Rattle.sessions.proofs.act.act.Statement.{statement}
-use Rattle.sessions.proofs.act.act.Tie as tie
+use Rattle.act.proofs.act.Statement.{statement}
+use Rattle.act.proofs.act.Tie as tie
 
 enum-known-gate : tie.Need-enum-known-gate
 enum-known-gate c = search needs

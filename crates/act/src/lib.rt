@@ -4,7 +4,7 @@ use book::Gate;
 ghost use Rattle.book.specs.Answers.{buffers, Does};
 ghost use Rattle.book.specs.Sessions as Book;
 
-pub(crate) fn act(n: u32, gate: Gate, reals: &mut [f64], imags: &mut [f64]) -> Answer
+pub fn act(n: u32, gate: Gate, reals: &mut [f64], imags: &mut [f64]) -> Answer
     ensures { λ r. ⌜ Does (Book.act n gate (buffers (now (reals .entry)) (now (imags .entry)))) r (buffers (now (reals .exit)) (now (imags .exit))) ⌝ }
 {
     match gate {
