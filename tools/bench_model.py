@@ -3,7 +3,7 @@
 
   bench_model.py run < INPUT > OUTPUT        what the program must print
   bench_model.py make NAME [SEED] > INPUT    an input; `bench_model.py names` lists the names
-  bench_model.py store DIR [SEED]            each input and its output, as DIR/crates/NAME/stdin and stdout
+  bench_model.py store DIR [SEED]            all of them, as DIR/crates/gate_bench/stdin and stdout and DIR/crates/stored_runs/data, args and stdout
 """
 import math, os, random, struct, sys
 
@@ -518,26 +518,50 @@ def make_deliveries(seed):
 
 MAKE = {
     'gate_bench': lambda seed: header(1, 7) + b''.join(frame(write(7, k, 2, 0)) for k in (0, 0, 2)),
-    'run_empty': lambda seed: b'',
-    'run_header_short': lambda seed: header(1, 7)[:7],
-    'run_header_tag': lambda seed: b'\x20' + one_x()[1:],
-    'run_header_length': lambda seed: b'\x21\x00\x04' + one_x()[3:],
-    'run_header_n_0': lambda seed: one_x(0),
-    'run_header_n_12': lambda seed: one_x(12),
-    'run_cut_tag': lambda seed: one_x(2) + b'\n',
-    'run_cut_length': lambda seed: one_x(2) + b'\x20\x00',
-    'run_cut_record': lambda seed: one_x(2) + frame(write(7, 1, 2, 1))[:-1],
-    'run_cut_overlong': lambda seed: one_x(2) + frame(bytes(65535))[:-1],
-    'run_overlong': make_overlong,
-    'run_gates_1': make_gates(1, 1),
-    'run_gates_5': make_gates(5, 5),
-    'run_specials': make_specials,
-    'run_refusals': make_refusals,
-    'run_eleven': make_eleven,
-    'run_many': make_many,
-    'run_deliveries': make_deliveries,
+    'empty': lambda seed: b'',
+    'header_short': lambda seed: header(1, 7)[:7],
+    'header_tag': lambda seed: b'\x20' + one_x()[1:],
+    'header_length': lambda seed: b'\x21\x00\x04' + one_x()[3:],
+    'header_n_0': lambda seed: one_x(0),
+    'header_n_12': lambda seed: one_x(12),
+    'cut_tag': lambda seed: one_x(2) + b'\n',
+    'cut_length': lambda seed: one_x(2) + b'\x20\x00',
+    'cut_record': lambda seed: one_x(2) + frame(write(7, 1, 2, 1))[:-1],
+    'cut_overlong': lambda seed: one_x(2) + frame(bytes(65535))[:-1],
+    'overlong': make_overlong,
+    'gates_1': make_gates(1, 1),
+    'gates_5': make_gates(5, 5),
+    'specials': make_specials,
+    'refusals': make_refusals,
+    'eleven': make_eleven,
+    'many': make_many,
+    'deliveries': make_deliveries,
 }
 SEED = 20261
+
+
+def answer(data):
+    out = []
+    run(data, out.append)
+    return ''.join(out)
+
+
+def put(folder, name, data):
+    os.makedirs(folder, exist_ok=True)
+    with open(os.path.join(folder, name), 'wb') as f:
+        f.write(data)
+
+
+def store(crates, seed):
+    """The sample as gate_bench's standard input; the others as files of stored_runs, which prints each under its name."""
+    made = {name: make(seed) for name, make in MAKE.items()}
+    sample = made.pop('gate_bench')
+    put(os.path.join(crates, 'gate_bench'), 'stdin', sample)
+    put(os.path.join(crates, 'gate_bench'), 'stdout', answer(sample).encode())
+    for name, data in made.items():
+        put(os.path.join(crates, 'stored_runs', 'data'), name, data)
+    put(os.path.join(crates, 'stored_runs'), 'args', ''.join(name + '\n' for name in made).encode())
+    put(os.path.join(crates, 'stored_runs'), 'stdout', ''.join(name + ':\n' + answer(data) for name, data in made.items()).encode())
 
 
 def main():
@@ -549,15 +573,7 @@ def main():
     elif word == 'make':
         sys.stdout.buffer.write(MAKE[sys.argv[2]](int(sys.argv[3]) if len(sys.argv) > 3 else SEED))
     elif word == 'store':
-        for name, make in MAKE.items():
-            data, out = make(int(sys.argv[3]) if len(sys.argv) > 3 else SEED), []
-            run(data, out.append)
-            folder = os.path.join(sys.argv[2], 'crates', name)
-            os.makedirs(folder, exist_ok=True)
-            with open(os.path.join(folder, 'stdin'), 'wb') as f:
-                f.write(data)
-            with open(os.path.join(folder, 'stdout'), 'w') as f:
-                f.write(''.join(out))
+        store(os.path.join(sys.argv[2], 'crates'), int(sys.argv[3]) if len(sys.argv) > 3 else SEED)
     else:
         print(__doc__)
 

@@ -1,20 +1,21 @@
-// The whole program: reads a header and frames from standard input, and prints the lines of document 01 to standard output. The input has
-// any size and comes in any pieces; one frame of it is kept. What is read and printed is proved in stream, and what a delivery does in sessions.
+// The whole program: reads a header and frames from its input, and prints the lines of document 01 to standard output. The input has
+// any size and comes in any pieces; one frame of it is kept. What is read is proved in frames, what is printed in stream, and what a
+// delivery does in sessions.
 ghost use Prim.Native.Nat.{_<_};
 
-mod frames;
 mod output;
 mod state;
+mod taker;
 
-use frames::Taker;
-use frames::cut_short;
-use frames::take_chunk;
+use frames::Header;
 use output::Output;
 use output::flush;
 use sessions::Session;
 use sessions::Started;
 use state::print_state;
-use stream::Header;
+use taker::Taker;
+use taker::cut_short;
+use taker::take_chunk;
 
 // Only this line.
 fn bad_header() {
@@ -59,6 +60,7 @@ fn flushed(taker: Taker, got: usize, out: &[u8]) -> Taker {
 
 // One piece of the input, as long as it comes.
 fn take_piece(
+    input: i32,
     start: Taker,
     chunk: &mut [u8],
     frame: &mut [u8],
@@ -66,7 +68,7 @@ fn take_piece(
     imags: &mut [f64],
     out: &mut [u8],
 ) -> Taker {
-    let read = libc::read(libc::STDIN_FILENO, chunk);
+    let read = libc::read(input, chunk);
     let got = io::count(read, chunk);
     let taken = take_chunk(&chunk[..got], start, frame, reals, imags, out);
     flushed(taken, got, out)
@@ -82,6 +84,7 @@ fn left(turns: u64, more: bool) -> u64
 
 // Reads to the end. Nothing says that an input ends: the turns are counted down from a number that no run uses up.
 fn take_all(
+    input: i32,
     start: Taker,
     frame: &mut [u8],
     reals: &mut [f64],
@@ -93,14 +96,14 @@ fn take_all(
     let mut taker = start;
     let mut turns = u64::MAX;
     while 0 < turns {
-        taker = take_piece(taker, chunk, frame, reals, imags, out);
+        taker = take_piece(input, taker, chunk, frame, reals, imags, out);
         turns = left(turns, taker.more);
     }
     taker
 }
 
 // The frames, and then the state behind them.
-fn run_session(session: Session, reals: &mut [f64], imags: &mut [f64]) {
+fn run_session(input: i32, session: Session, reals: &mut [f64], imags: &mut [f64]) {
     let mut frame = [0u8; 97];
     let mut out = io::large_buffer();
     let start = Taker {
@@ -113,7 +116,7 @@ fn run_session(session: Session, reals: &mut [f64], imags: &mut [f64]) {
         at: 0,
         open: true,
     };
-    let end = take_all(start, &mut frame, reals, imags, &mut out);
+    let end = take_all(input, start, &mut frame, reals, imags, &mut out);
     let cut = cut_short(end, &frame);
     let last = end.session;
     let output = Output {
@@ -124,7 +127,7 @@ fn run_session(session: Session, reals: &mut [f64], imags: &mut [f64]) {
 }
 
 // The places that a state of n qubits has.
-fn run_places(n: u32, session: Session, reals: &mut [f64], imags: &mut [f64]) {
+fn run_places(input: i32, n: u32, session: Session, reals: &mut [f64], imags: &mut [f64]) {
     if 11 < n {
         return;
     }
@@ -135,11 +138,11 @@ fn run_places(n: u32, session: Session, reals: &mut [f64], imags: &mut [f64]) {
     if imags.len() < size {
         return;
     }
-    run_session(session, &mut reals[..size], &mut imags[..size]);
+    run_session(input, session, &mut reals[..size], &mut imags[..size]);
 }
 
 // From state real 1 at index 0.
-fn run_bench(n: u32, number: u32) {
+fn run_bench(input: i32, n: u32, number: u32) {
     let started = Session::start(n, number);
     let Started::Fresh(session) = started else {
         return;
@@ -147,15 +150,20 @@ fn run_bench(n: u32, number: u32) {
     let mut reals = [0.0; 2048];
     let mut imags = [0.0; 2048];
     reals[0] = 1.0;
-    run_places(n, session, &mut reals, &mut imags);
+    run_places(input, n, session, &mut reals, &mut imags);
+}
+
+// From an open descriptor: that of a stored run, or standard input.
+pub fn run_from(input: i32) {
+    let mut head = [0u8; 8];
+    let got = io::read_full(input, &mut head);
+    let header = frames::read_header(&head[..got]);
+    match header {
+        Header::Good(n, number) => run_bench(input, n, number),
+        Header::Bad => bad_header(),
+    }
 }
 
 pub fn run() {
-    let mut head = [0u8; 8];
-    let got = io::read_full(libc::STDIN_FILENO, &mut head);
-    let header = stream::read_header(&head[..got]);
-    match header {
-        Header::Good(n, number) => run_bench(n, number),
-        Header::Bad => bad_header(),
-    }
+    run_from(libc::STDIN_FILENO);
 }

@@ -1,15 +1,11 @@
 // The reader of gate records: it takes each field's answer apart, and leaves at the first field that is not there as listed.
 ghost use mathlib.Core.Path.{_≡_};
 ghost use Rattle.book.specs.Records.{readOf, readRecord};
-
-mod answers;
-mod gates;
-
-use crate::answers::Made;
-use crate::gates::read_gate;
 use book::Read;
 use book::Record;
 use book::Refusal;
+use codes::Made;
+use codes::read_gate;
 use fields::Field;
 use fields::number_field;
 

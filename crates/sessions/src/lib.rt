@@ -1,6 +1,4 @@
 // Sessions: each delivery takes the session and hands back the next one, with the answer. However often a record comes, it is run once.
-mod act;
-
 use act::act;
 use book::Answer;
 use book::Gate;

@@ -1,4 +1,3 @@
--- What the program reads, and what it prints.
-pub mod Frames
+-- What the program prints.
 pub mod Text
 pub mod Lines

@@ -1,6 +1,4 @@
--- Fills: stretches of places filled one after the other. Dots: the sums of products.
-pub mod Fills
-pub mod Dots
-pub mod Judged
-pub mod Mirrors
-pub mod Crossings
+-- Mirrors: a matrix turned place by place. Crossings: the entries of a gate's matrix. Judged: a call, refused or taken.
+mod Judged
+mod Mirrors
+mod Crossings

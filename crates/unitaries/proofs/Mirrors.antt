@@ -1,21 +1,23 @@
 -- The mirror of a place is within the matrix and its own mirror's mirror; so crossing each place with its mirror once, when the earlier of the two is reached,
 -- turns the whole matrix. Assumes nothing.
 use Prim.Native.Nat.{ℕ, zero, suc, _+_, _*_, _/_, _%_, _≤_, _<_}
+use mathlib.Core.List.{List}
 use mathlib.Core.Logic.{_⊎_, inl, inr, ⊎-elim}
 use mathlib.Core.Path.{_≡_, refl, sym, ap, _∙_, subst}
 use native.Mathlib.Decide.{decLt, ℕ-discrete}
 use native.Mathlib.Nat.{mod-lt, div-lt-iff-lt-mul, div-add-mod', zero-mul}
 use native.Mathlib.Omega.{arith}
 use lib.Arith.{digits-lt, digits-div, digits-mod}
-use lib.ListN.{length}
+use lib.Ieee.{Float, nan}
+use lib.ListN.{length, getD, set}
 use Rattle.book.proofs.Tables.{held-only}
-use Rattle.book.specs.Answers.{Buffers}
+use Rattle.book.specs.Answers.{Buffers, buffers}
 use Rattle.book.specs.Matrices.{conjugate}
 use Rattle.book.specs.State.{at, held}
 use Rattle.book.specs.declared.Amplitude.{Amplitude}
-use Rattle.unitaries.specs.Filled.{Filled}
+use Rattle.matrices.proofs.Fills.{stored, holds, same-size}
+use Rattle.matrices.specs.Filled.{Holds, Filled}
 use Rattle.unitaries.specs.Mirrored.{mirror, Crossed, TurnedAt, Turned}
-use Rattle.unitaries.proofs.Fills.{same-size}
 
 pub side-pos : (side place : ℕ) → place < side * side → 0 < side
 side-pos zero place l = absurd (let z : zero * zero ≡ 0 = zero-mul zero in omega arith)
@@ -38,7 +40,7 @@ module _ (side place : ℕ) (l : place < side * side) where
 
 -- ---- two places crossed
 
-pub crossed : (i j : ℕ) (b b₁ b₂ : Buffers) {z w x y : Amplitude} → z ≡ at b i → w ≡ at b j → x ≡ conjugate w → y ≡ conjugate z
+crossed : (i j : ℕ) (b b₁ b₂ : Buffers) {z w x y : Amplitude} → z ≡ at b i → w ≡ at b j → x ≡ conjugate w → y ≡ conjugate z
     → Filled i 1 (λ k. x) b b₁ → Filled j 1 (λ k. y) b₁ b₂ → Crossed i j b b₂
 crossed i j b b₁ b₂ {x = x} {y = y} p q r s f g =
     record {
@@ -64,6 +66,16 @@ crossed i j b b₁ b₂ {x = x} {y = y} p q r s f g =
     by : Dec (i ≡ j) → at b₂ i ≡ conjugate (at b j)
     by (yes e) = ap (at b₂) e ∙ at-j ∙ s ∙ ap conjugate (p ∙ ap (at b) e)
     by (no n) = g .others i (side i j n) ∙ at-i ∙ r ∙ ap conjugate q
+
+-- the code's four stores
+pub crossed-stores : (re im : List Float) (i j : ℕ) → Holds (i + 1) (buffers re im) → Holds (j + 1) (buffers re im)
+    → Crossed i j (buffers re im)
+    (buffers (set (set re i (getD re j nan)) j (getD re i nan)) (set (set im i (conjugate (at (buffers re im) j) .im)) j (conjugate (at (buffers re im) i) .im)))
+crossed-stores re im i j h k =
+    let x = conjugate (at (buffers re im) j) in
+    let y = conjugate (at (buffers re im) i) in
+    let first = stored re im i x h in
+    crossed i j _ _ _ refl refl refl refl first (stored (set re i (x .re)) (set im i (x .im)) j y (holds first k))
 
 -- ---- one place more
 

@@ -1,3 +1,2 @@
--- The words of the inner functions' contracts: what a call of a part of the work leaves.
-pub mod Filled
+-- The words of the loop's contract.
 pub mod Mirrored

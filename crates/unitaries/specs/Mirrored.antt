@@ -5,7 +5,7 @@ use mathlib.Core.Path.{_≡_}
 use Rattle.book.specs.Answers.{Buffers}
 use Rattle.book.specs.Matrices.{conjugate}
 use Rattle.book.specs.State.{at}
-use Rattle.unitaries.specs.Filled.{SameSize}
+use Rattle.matrices.specs.Filled.{SameSize}
 
 -- the place with row and column exchanged
 unfoldable pub mirror : ℕ → ℕ → ℕ

@@ -1,12 +1,11 @@
 // A matrix from four amplitudes and a target: those at the pairs' crossings, 0.0 elsewhere.
-use crate::places::write_at;
 use book::Amplitude;
 use book::Matrix;
 ghost use mathlib.Core.Path.{_≡_};
 ghost use Prim.Native.Nat.{_+_, _*_, _/_, _%_, _≤_, _<_};
 ghost use Rattle.book.specs.Answers.{buffers};
 ghost use Rattle.book.specs.Matrices.{crossing, pairOf};
-ghost use Rattle.unitaries.specs.Filled.{Holds, Filled};
+ghost use Rattle.matrices.specs.Filled.{Holds, Filled};
 
 // An index without its target bit: the two places of a pair share it.
 fn pair_of(target: u32, i: usize) -> usize
@@ -44,7 +43,8 @@ pub(crate) fn fill_crossings(
     let mut place = 0;
     while place < size {
         let z = crossing_at(Matrix { entries }, target, place / side, place % side);
-        write_at(reals, imags, place, z);
+        reals[place] = z.re;
+        imags[place] = z.im;
         place += 1;
     }
 }

@@ -6,11 +6,11 @@ use Rattle.bench_run.proofs.take_all.Statement.{statement}
 use Rattle.bench_run.proofs.take_all.Tie as tie
 
 abbrev Inv-loop : tie.InvT-loop
-Inv-loop frame₀ reals₀ imags₀ out₀ chunk₀ taker₀ turns₀ frame reals imags out chunk taker turns =
+Inv-loop input frame₀ reals₀ imags₀ out₀ chunk₀ taker₀ turns₀ frame reals imags out chunk taker turns =
     (length frame ≡ length frame₀) × (length reals ≡ length reals₀) × (length imags ≡ length imags₀) × (length out ≡ length out₀) × (length chunk ≡ length chunk₀)
 
 abbrev μ-loop : tie.MeasureT-loop
-μ-loop frame₀ reals₀ imags₀ out₀ chunk₀ taker₀ turns₀ frame reals imags out chunk taker turns = turns
+μ-loop input frame₀ reals₀ imags₀ out₀ chunk₀ taker₀ turns₀ frame reals imags out chunk taker turns = turns
 
 large-buffer-requires : tie.Need-large-buffer-requires Inv-loop μ-loop
 large-buffer-requires c κs = search needs

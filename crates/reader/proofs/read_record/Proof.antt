@@ -9,9 +9,9 @@ use Rattle.book.specs.Records.{made, readGate, readOf}
 use Rattle.book.specs.declared.Gate.{Gate}
 use Rattle.book.specs.declared.Read.the-variants.{Record as Found, Refused as Unread}
 use Rattle.book.specs.declared.Refusal.the-variants.{Record as NoRecord}
-use Rattle.reader.specs.Answers.{madeOf}
-use Rattle.reader.specs.declared.answers.Made.the-variants.{Gate as Made, Missing as NoGate}
-use Rattle.reader.proofs.Answered.{record-by}
+use Rattle.codes.specs.Answers.{madeOf}
+use Rattle.codes.specs.declared.answers.Made.the-variants.{Gate as Made, Missing as NoGate}
+use Rattle.codes.proofs.Answered.{record-by}
 use borrow.Author.Needs.{needs}
 use Rattle.reader.proofs.read_record.Statement.{statement}
 use Rattle.reader.proofs.read_record.Tie as tie

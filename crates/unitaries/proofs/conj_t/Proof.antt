@@ -1,24 +1,23 @@
 -- `unitaries::conj_t` meets its contract: its two tests in order, and then the loop. Assumes nothing.
 use mathlib.Core.Path.{sym, _∙_}
 use borrow.Author.Needs.{needs}
-use Rattle.book.proofs.Refusals.{too-small, too-large}
-use Rattle.book.specs.Matrices.{mostMatrix}
-use Rattle.unitaries.proofs.Dots.{square-le}
-use Rattle.unitaries.proofs.Judged.{side-is, side-le, square-fits, held-places, transpose-size, transpose-length, turned-done}
+use Rattle.matrices.proofs.Judged.{most-is, shift-fits, held-places}
+use Rattle.matrices.proofs.Sides.{side-le, square-fits}
+use Rattle.unitaries.proofs.Judged.{transpose-size, transpose-long, turned-filled}
 use Rattle.unitaries.proofs.conj_t.Statement.{statement}
 use Rattle.unitaries.proofs.conj_t.Tie as tie
 
-returns : tie.Need-returns
-returns c = transpose-size _ _ (too-small mostMatrix _ (c .if1 .taken))
+bad-size-requires : tie.Need-bad-size-requires
+bad-size-requires c κs = search needs
 
-returns-2 : tie.Need-returns-2
-returns-2 c = transpose-size _ _ (too-large mostMatrix _ (c .before .if1 .left) (c .if2 .taken))
+returns : tie.Need-returns
+returns c = transpose-size _ _ (sym (c .before .bad-size .ensures) ∙ c .if1 .taken)
 
 shl-side : tie.Need-shl-side
-shl-side c = search needs
+shl-side c = shift-fits _ (sym (c .before .bad-size .ensures) ∙ c .if1 .left)
 
 mul-bad-length : tie.Need-mul-bad-length
-mul-bad-length c = let l = side-le _ (c .before .before .if2 .left) in record { fits = square-fits _ l (square-le _ l) }
+mul-bad-length c = record { fits = square-fits _ (side-le _ (most-is _ (sym (c .before .before .before .bad-size .ensures) ∙ c .before .before .if1 .left))) }
 
 bad-length-requires : tie.Need-bad-length-requires
 bad-length-requires c κs = search needs
@@ -29,11 +28,11 @@ same-length c = search needs
 same-length-2 : tie.Need-same-length-2
 same-length-2 c = search needs
 
-returns-3 : tie.Need-returns-3
-returns-3 c = transpose-length _ _ (c .before .before .before .before .before .if1 .left) (c .before .before .before .before .if2 .left) (rw (side-is _ (c .before .before .before .before .if2 .left)) at (sym (c .before .bad-length .ensures) ∙ c .if3 .taken))
+returns-2 : tie.Need-returns-2
+returns-2 c = transpose-long _ _ (sym (c .before .before .before .before .before .bad-size .ensures) ∙ c .before .before .before .before .if1 .left) (sym (c .before .bad-length .ensures) ∙ c .if2 .taken)
 
 turn-all-requires : tie.Need-turn-all-requires
-turn-all-requires c κs = (side-le _ (c .before .before .before .before .before .before .if2 .left), held-places _ _ (sym (c .before .before .before .bad-length .ensures) ∙ c .before .before .if3 .left))
+turn-all-requires c κs = (side-le _ (most-is _ (sym (c .before .before .before .before .before .before .before .bad-size .ensures) ∙ c .before .before .before .before .before .before .if1 .left)), held-places _ _ (sym (c .before .before .before .bad-length .ensures) ∙ c .before .before .if2 .left))
 
 same-length-3 : tie.Need-same-length-3
 same-length-3 c = search needs
@@ -41,22 +40,25 @@ same-length-3 c = search needs
 same-length-4 : tie.Need-same-length-4
 same-length-4 c = search needs
 
-returns-4 : tie.Need-returns-4
-returns-4 c = turned-done _ _ _ (c .before .before .before .before .before .before .before .before .before .before .before .before .if1 .left) (c .before .before .before .before .before .before .before .before .before .before .before .if2 .left) (rw (side-is _ (c .before .before .before .before .before .before .before .before .before .before .before .if2 .left)) at (sym (c .before .before .before .before .before .before .before .before .bad-length .ensures) ∙ c .before .before .before .before .before .before .before .if3 .left)) (rw (side-is _ (c .before .before .before .before .before .before .before .before .before .before .before .if2 .left)) at (c .before .before .before .before .turn-all .ensures))
+returns-3 : tie.Need-returns-3
+returns-3 c =
+    turned-filled _ _ (sym (c .before .before .before .before .before .before .before .before .before .before .before .before .bad-size .ensures) ∙ c .before .before .before .before .before .before .before .before .before .before .before .if1 .left) _
+    (sym (c .before .before .before .before .before .before .before .before .bad-length .ensures) ∙ c .before .before .before .before .before .before .before .if2 .left)
+    (c .before .before .before .before .turn-all .ensures)
 
 pub conj-t-spec : {M : Type 1} → statement M
 conj-t-spec =
     tie.close
     (tie.spec
+    bad-size-requires
     returns
-    returns-2
     shl-side
     mul-bad-length
     bad-length-requires
     same-length
     same-length-2
-    returns-3
+    returns-2
     turn-all-requires
     same-length-3
     same-length-4
-    returns-4)
+    returns-3)

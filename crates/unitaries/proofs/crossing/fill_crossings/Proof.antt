@@ -4,10 +4,9 @@ use native.Mathlib.Omega.{arith}
 use borrow.Author.Needs.{needs}
 use Rattle.book.specs.Answers.{buffers}
 use Rattle.book.specs.Matrices.{crossing}
-use Rattle.unitaries.specs.Filled.{Filled}
-use Rattle.unitaries.proofs.Dots.{square-le}
-use Rattle.unitaries.proofs.Fills.{nothing, one-more, done, fewer, holds}
-use Rattle.unitaries.proofs.Judged.{square-fits}
+use Rattle.matrices.proofs.Fills.{stored, nothing, held-next, one-more, done}
+use Rattle.matrices.proofs.Sides.{square-fits}
+use Rattle.matrices.specs.Filled.{Filled}
 use Rattle.unitaries.proofs.crossing.fill_crossings.Statement.{statement}
 use Rattle.unitaries.proofs.crossing.fill_crossings.Tie as tie
 
@@ -18,7 +17,7 @@ abbrev μ-loop : tie.MeasureT-loop
 μ-loop reals₀ imags₀ target side entries size place₀ reals imags place = size - place
 
 mul-size : tie.Need-mul-size Inv-loop μ-loop
-mul-size c = record { fits = square-fits _ (c .before .before .before .pre .2) (square-le _ (c .before .before .before .pre .2)) }
+mul-size c = record { fits = square-fits _ (c .before .before .before .pre .2) }
 
 loop-holds : tie.Need-loop-holds Inv-loop μ-loop
 loop-holds c = (omega arith, nothing _ _ _)
@@ -32,8 +31,17 @@ rem-crossing-at c = search needs
 crossing-at-requires : tie.Need-crossing-at-requires Inv-loop μ-loop
 crossing-at-requires c κs = search needs
 
-write-at-requires : tie.Need-write-at-requires Inv-loop μ-loop
-write-at-requires c κs = holds (c .before .before .before .before .loop .inv .1) (fewer (omega (arith, c .before .before .before .loop-test .taken)) (c .before .before .before .before .before .before .before .before .pre .3))
+mul-reals : tie.Need-mul-reals Inv-loop μ-loop
+mul-reals c = search needs
+
+slice-write-reals : tie.Need-slice-write-reals Inv-loop μ-loop
+slice-write-reals c = let h = held-next (c .before .loop-test .taken) (c .before .before .loop .inv .1) (c .before .before .before .before .before .before .pre .3) in omega arith
+
+mul-imags : tie.Need-mul-imags Inv-loop μ-loop
+mul-imags c = search needs
+
+slice-write-imags : tie.Need-slice-write-imags Inv-loop μ-loop
+slice-write-imags c = let h = held-next (c .before .loop-test .taken) (c .before .before .loop .inv .1) (c .before .before .before .before .before .before .pre .3) in omega arith
 
 add-place : tie.Need-add-place Inv-loop μ-loop
 add-place c = search needs
@@ -42,7 +50,9 @@ loop-less : tie.Need-loop-less Inv-loop μ-loop
 loop-less c = search needs
 
 loop-again : tie.Need-loop-again Inv-loop μ-loop
-loop-again c = (omega (arith, c .before .before .before .before .before .before .before .before .loop-test .taken), one-more (omega arith) (c .before .before .before .before .before .before .before .before .before .loop .inv .1) (c .before .before .before .before .write-at .ensures) (c .before .before .before .before .before .before .before .crossing-at .ensures))
+loop-again c =
+    let h = held-next (c .before .loop-test .taken) (c .before .before .loop .inv .1) (c .before .before .before .before .before .before .pre .3) in
+    (omega (arith, c .before .loop-test .taken), one-more (omega arith) (c .before .before .loop .inv .1) (stored _ _ _ _ h) (c .crossing-at .ensures))
 
 same-length : tie.Need-same-length Inv-loop μ-loop
 same-length c = search needs
@@ -64,7 +74,10 @@ fill-crossings-spec =
     div-crossing-at
     rem-crossing-at
     crossing-at-requires
-    write-at-requires
+    mul-reals
+    slice-write-reals
+    mul-imags
+    slice-write-imags
     add-place
     loop-less
     loop-again

@@ -2,8 +2,8 @@
 use Prim.Native.Nat.{_≤_}
 use native.Mathlib.Omega.{arith}
 use borrow.Author.Needs.{needs}
+use Rattle.matrices.proofs.Sides.{side-is}
 use Rattle.unitaries.proofs.Crossings.{bit-part-le, bit-part-lt}
-use Rattle.unitaries.proofs.Judged.{side-is}
 use Rattle.unitaries.proofs.crossing.pair_of.Statement.{statement}
 use Rattle.unitaries.proofs.crossing.pair_of.Tie as tie
 

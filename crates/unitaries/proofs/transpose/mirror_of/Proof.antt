@@ -1,7 +1,7 @@
 -- `unitaries::transpose::mirror_of` meets its contract: the mirror is within the matrix, so nothing wraps. Assumes nothing.
 use native.Mathlib.Nat.{mod-lt}
 use native.Mathlib.Omega.{arith}
-use Rattle.unitaries.proofs.Dots.{square-le, start-fits}
+use Rattle.matrices.proofs.Sides.{square-le, start-fits}
 use Rattle.unitaries.proofs.Mirrors.{side-pos, mirror-is, mirror-sum-lt}
 use Rattle.unitaries.proofs.transpose.mirror_of.Statement.{statement}
 use Rattle.unitaries.proofs.transpose.mirror_of.Tie as tie

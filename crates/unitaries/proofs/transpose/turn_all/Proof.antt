@@ -4,10 +4,9 @@ use mathlib.Core.Path.{_≡_}
 use native.Mathlib.Omega.{arith}
 use borrow.Author.Needs.{needs}
 use Rattle.book.specs.Answers.{buffers}
+use Rattle.matrices.proofs.Fills.{same-holds}
+use Rattle.matrices.proofs.Sides.{square-fits}
 use Rattle.unitaries.specs.Mirrored.{Turned}
-use Rattle.unitaries.proofs.Dots.{square-le}
-use Rattle.unitaries.proofs.Fills.{same-holds}
-use Rattle.unitaries.proofs.Judged.{square-fits}
 use Rattle.unitaries.proofs.Mirrors.{turned-none, turned-more}
 use Rattle.unitaries.proofs.transpose.turn_all.Statement.{statement}
 use Rattle.unitaries.proofs.transpose.turn_all.Tie as tie
@@ -19,7 +18,7 @@ abbrev μ-loop : tie.MeasureT-loop
 μ-loop reals₀ imags₀ side size place₀ reals imags place = size - place
 
 mul-size : tie.Need-mul-size Inv-loop μ-loop
-mul-size c = record { fits = square-fits _ (c .before .before .pre .0) (square-le _ (c .before .before .pre .0)) }
+mul-size c = record { fits = square-fits _ (c .before .before .pre .0) }
 
 loop-holds : tie.Need-loop-holds Inv-loop μ-loop
 loop-holds c = (omega arith, turned-none _ _)

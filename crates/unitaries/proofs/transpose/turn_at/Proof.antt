@@ -1,7 +1,7 @@
 -- `unitaries::transpose::turn_at` meets its contract, by which of a place and its mirror comes first. Assumes nothing.
 use native.Mathlib.Omega.{arith}
 use borrow.Author.Needs.{needs}
-use Rattle.unitaries.proofs.Fills.{fewer}
+use Rattle.matrices.proofs.Fills.{fewer}
 use Rattle.unitaries.proofs.Mirrors.{mirror-lt, left-alone, turned-at}
 use Rattle.unitaries.proofs.transpose.turn_at.Statement.{statement}
 use Rattle.unitaries.proofs.transpose.turn_at.Tie as tie

@@ -1,0 +1,24 @@
+// What a gate does to a state of n qubits: the kernel of each code, one line each.
+use book::Answer;
+use book::Gate;
+ghost use Rattle.book.specs.Answers.{buffers, Does};
+ghost use Rattle.book.specs.Sessions as Book;
+
+pub fn act(n: u32, gate: Gate, reals: &mut [f64], imags: &mut [f64]) -> Answer
+    ensures { λ r. ⌜ Does (Book.act n gate (buffers (now (reals .entry)) (now (imags .entry)))) r (buffers (now (reals .exit)) (now (imags .exit))) ⌝ }
+{
+    match gate {
+        Gate::H(t, c) => gates::h_apply(reals, imags, n, t as u32, c),
+        Gate::X(t, c) => gates::x_apply(reals, imags, n, t as u32, c),
+        Gate::Y(t, c) => gates::y_apply(reals, imags, n, t as u32, c),
+        Gate::Z(t, c) => gates::z_apply(reals, imags, n, t as u32, c),
+        Gate::P(t, c, angle) => gates::p_apply(reals, imags, n, t as u32, c, angle),
+        Gate::Rx(t, c, angle) => gates::rx_apply(reals, imags, n, t as u32, c, angle),
+        Gate::Ry(t, c, angle) => gates::ry_apply(reals, imags, n, t as u32, c, angle),
+        Gate::Rz(t, c, angle) => gates::rz_apply(reals, imags, n, t as u32, c, angle),
+        Gate::U(t, c, angles) => gates::u_apply(reals, imags, n, t as u32, c, angles),
+        Gate::Swap(t, u) => gates::swap_apply(reals, imags, n, t as u32, u as u32),
+        Gate::Measure(t, forced) => measurement::measure_qubit(reals, imags, n, t as u32, forced),
+        Gate::BitFlip(t, noise) => gates::bit_flip_noise_apply(reals, imags, n, t as u32, noise),
+    }
+}

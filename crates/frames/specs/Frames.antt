@@ -1,0 +1,43 @@
+-- What the program reads: a header, then frames. Definitions only. Assumes nothing.
+use Prim.Native.Nat.{ℕ, _+_}
+use mathlib.Core.Bool.{Bool, cond, not}
+use mathlib.Core.List.{List}
+use lib.Dec.{ltb, eqb}
+use lib.ListN.{length, take, drop, getD}
+use Rattle.book.specs.Kernels.{badSize}
+use Rattle.book.specs.Records.{number, starts}
+use Rattle.frames.specs.declared.Header.{Header}
+use Rattle.frames.specs.declared.Header.the-variants.{Good, Bad}
+use Rattle.frames.specs.declared.Next.{Next}
+use Rattle.frames.specs.declared.Next.the-variants.{Whole, Over, Cut, End, More}
+
+-- n is 1 to 11 in the program
+abbrev pub mostQubits : ℕ
+mostQubits = 11
+
+-- 21 0005, n (1 byte), session (4)
+abbrev pub headerOf : List ℕ → Header
+headerOf bs =
+    cond (starts 0x21 5 bs)
+    (cond (badSize mostQubits (getD bs 3 0)) Bad (Good (getD bs 3 0) (number (take 4 (drop 4 bs)))))
+    Bad
+
+-- a record has at most 94 bytes
+abbrev pub mostBytes : ℕ
+mostBytes = 94
+
+-- a frame of which a part is there: more may come, and at the end of the input it is cut short
+abbrev pub unfinished : Bool → Next
+unfinished ended = cond ended Cut More
+
+-- a frame over 94 bytes is read past; any other is a delivery once it is whole
+abbrev pub sized : Bool → ℕ → ℕ → Next
+sized ended have len = cond (ltb mostBytes len) (Over len) (cond (ltb have (3 + len)) (unfinished ended) (Whole len))
+
+-- 20, length, record: what the bytes behind the last frame are, of an input that has ended or may go on
+abbrev pub nextOf : Bool → List ℕ → Next
+nextOf ended bs =
+    cond (eqb (length bs) 0) (cond ended End More)
+    (cond (not (eqb (getD bs 0 0) 0x20)) Cut
+    (cond (ltb (length bs) 3) (unfinished ended)
+    (sized ended (length bs) (number (take 2 (drop 1 bs))))))

@@ -1,0 +1,113 @@
+// What the program reads, over slices: the header, and the frame that comes next.
+ghost use mathlib.Core.Path.{_≡_};
+ghost use Prim.Native.Nat.{ℕ, _+_, _≤_, _<_};
+ghost use lib.ListN.{length, take, drop};
+ghost use Rattle.book.specs.Records.{number};
+ghost use Rattle.frames.specs.Frames.{headerOf, nextOf, unfinished, sized};
+
+// A header gives n and the session, or is bad.
+pub enum Header {
+    Good(u32, u32),
+    Bad,
+}
+
+// What the bytes behind the last frame are: a whole frame of so many bytes, one over 94 bytes that is read past, a frame cut short or a wrong tag,
+// the end of the input, or a frame of which more has to come.
+pub enum Next {
+    Whole(usize),
+    Over(usize),
+    Cut,
+    End,
+    More,
+}
+
+// 21 0005, and what has that length.
+const HEADER: u8 = 0x21;
+
+const HEADER_LENGTH: u64 = 5;
+
+const HEADER_BYTES: usize = 8;
+
+// n is 1 to 11 in the program.
+const MOST_QUBITS: u8 = 11;
+
+const FRAME: u8 = 0x20;
+
+// A record has at most 94 bytes.
+const MOST_BYTES: u64 = 94;
+
+// The number that two bytes are.
+fn two_at(bytes: &[u8], at: usize) -> u64
+    requires { ⌜ at + 2 ≤ length (now bytes) ⌝ }
+    ensures { λ r. ⌜ (r ≡ number (take 2 (drop at (now (bytes .entry))))) × (r < 65536) ⌝ }
+{
+    let high = bytes[at] as u64;
+    let low = bytes[at + 1] as u64;
+    high * 256 + low
+}
+
+pub fn read_header(bytes: &[u8]) -> Header
+    ensures is { λ r. ⌜ r ≡ headerOf (now (bytes .entry)) ⌝ }
+    ensures small { λ r. ⌜ ((n session : ℕ) → r ≡ Header.Good n session → n ≤ 11) ⌝ }
+{
+    if bytes.len() < HEADER_BYTES {
+        return Header::Bad;
+    }
+    if bytes[0] != HEADER {
+        return Header::Bad;
+    }
+    let length = two_at(bytes, 1);
+    if length != HEADER_LENGTH {
+        return Header::Bad;
+    }
+    let n = bytes[3];
+    if n < 1 {
+        return Header::Bad;
+    }
+    if MOST_QUBITS < n {
+        return Header::Bad;
+    }
+    let qubits = n as u32;
+    let number = two_at(bytes, 4) * 65536 + two_at(bytes, 6);
+    let session = number as u32;
+    Header::Good(qubits, session)
+}
+
+fn unfinished(ended: bool) -> Next
+    ensures { λ r. ⌜ r ≡ unfinished ended ⌝ }
+{
+    if ended { Next::Cut } else { Next::More }
+}
+
+// A frame of this length, of which so many bytes are there, tag and length with them.
+fn sized(ended: bool, have: usize, len: u64) -> Next
+    requires { ⌜ len < 65536 ⌝ }
+    ensures { λ r. ⌜ r ≡ sized ended have len ⌝ }
+{
+    if MOST_BYTES < len {
+        return Next::Over(len as usize);
+    }
+    if have < 3 + len as usize {
+        return unfinished(ended);
+    }
+    Next::Whole(len as usize)
+}
+
+pub fn next_frame(bytes: &[u8], ended: bool) -> Next
+    ensures { λ r. ⌜ r ≡ nextOf ended (now (bytes .entry)) ⌝ }
+{
+    let have = bytes.len();
+    if have == 0 {
+        if ended {
+            return Next::End;
+        }
+        return Next::More;
+    }
+    if bytes[0] != FRAME {
+        return Next::Cut;
+    }
+    if have < 3 {
+        return unfinished(ended);
+    }
+    sized(ended, have, two_at(bytes, 1))
+}

@@ -1,0 +1,2 @@
+-- What the loops of matrix calls ask and leave.
+pub mod Filled

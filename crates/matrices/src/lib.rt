@@ -1,0 +1,51 @@
+// What every matrix call asks first: n from 1 to 6, and each buffer of exactly its length. With it go the laws of stretches of places that were filled.
+ghost use mathlib.Core.Bool.{_||_};
+ghost use mathlib.Core.Path.{_≡_};
+ghost use Rattle.book.specs.Answers.{buffers};
+ghost use Rattle.book.specs.Kernels.{badSize, badLength};
+ghost use Rattle.book.specs.Matrices.{mostMatrix};
+
+// n is 1 to 6 for matrices.
+const MOST_MATRIX: u32 = 6;
+
+// n is out of range.
+pub fn bad_size(n: u32) -> bool
+    ensures { λ r. ⌜ r ≡ badSize mostMatrix n ⌝ }
+{
+    if n < 1 {
+        return true;
+    }
+    MOST_MATRIX < n
+}
+
+// A buffer is not of exactly the length that is asked.
+pub fn bad_length(reals: &[f64], imags: &[f64], size: usize) -> bool
+    ensures { λ r. ⌜ r ≡ badLength size (buffers (now (reals .entry)) (now (imags .entry))) ⌝ }
+{
+    if reals.len() != size {
+        return true;
+    }
+    imags.len() != size
+}
+
+// One of three pairs of buffers is not of its length.
+pub fn bad_lengths(
+    ar: &[f64],
+    ai: &[f64],
+    entries: usize,
+    br: &[f64],
+    bi: &[f64],
+    reals: &[f64],
+    imags: &[f64],
+    size: usize,
+) -> bool
+    ensures { λ r. ⌜ r ≡ (badLength entries (buffers (now (ar .entry)) (now (ai .entry))) || badLength size (buffers (now (br .entry)) (now (bi .entry))) || badLength size (buffers (now (reals .entry)) (now (imags .entry)))) ⌝ }
+{
+    if bad_length(ar, ai, entries) {
+        return true;
+    }
+    if bad_length(br, bi, size) {
+        return true;
+    }
+    bad_length(reals, imags, size)
+}

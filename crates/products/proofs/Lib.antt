@@ -1,0 +1,3 @@
+-- Dots: the sums of products. Products: a call, refused or taken.
+mod Dots
+mod Products

@@ -1,0 +1,63 @@
+-- `products::sums::fill_product` meets its contract: one row more in each turn. Assumes nothing.
+use Prim.Native.Nat.{_-_, _*_, _≤_}
+use mathlib.Core.Path.{_≡_}
+use native.Mathlib.Nat.{zero-mul}
+use borrow.Author.Needs.{needs}
+use native.Mathlib.Omega.{arith}
+use Rattle.book.specs.Answers.{buffers}
+use Rattle.matrices.specs.Filled.{Filled}
+use Rattle.products.specs.Sums.{product}
+use Rattle.matrices.proofs.Sides.{row-end, square-le, start-fits}
+use Rattle.products.proofs.Dots.{rows-more}
+use Rattle.matrices.proofs.Fills.{empty, fewer, holds}
+use Rattle.products.proofs.sums.fill_product.Statement.{statement}
+use Rattle.products.proofs.sums.fill_product.Tie as tie
+
+abbrev Inv-loop : tie.InvT-loop
+Inv-loop ar ai br bi reals₀ imags₀ side row₀ reals imags row = (row ≤ side) × Filled 0 (row * side) (product side (buffers ar ai) (buffers br bi)) (buffers reals₀ imags₀) (buffers reals imags)
+
+abbrev μ-loop : tie.MeasureT-loop
+μ-loop ar ai br bi reals₀ imags₀ side row₀ reals imags row = side - row
+
+loop-holds : tie.Need-loop-holds Inv-loop μ-loop
+loop-holds c = (omega arith, empty _ _ (zero-mul _))
+
+mul-fill-row : tie.Need-mul-fill-row Inv-loop μ-loop
+mul-fill-row c = record { fits = start-fits _ _ (c .before .before .loop-test .taken) (c .before .before .before .before .before .before .before .before .before .before .pre .0) }
+
+fill-row-requires : tie.Need-fill-row-requires Inv-loop μ-loop
+fill-row-requires c κs = (record { most = c .before .before .before .before .before .before .before .before .before .before .pre .0; within = omega (arith, row-end _ _ (c .before .before .loop-test .taken), square-le _ (c .before .before .before .before .before .before .before .before .before .before .pre .0)) }, fewer (row-end _ _ (c .before .before .loop-test .taken)) (c .before .before .before .before .before .before .before .before .before .before .pre .1), c .before .before .before .before .before .before .before .before .before .before .pre .2, holds (c .before .before .before .loop .inv .1) (fewer (row-end _ _ (c .before .before .loop-test .taken)) (c .before .before .before .before .before .before .before .before .before .before .pre .3)))
+
+add-row : tie.Need-add-row Inv-loop μ-loop
+add-row c = search needs
+
+loop-less : tie.Need-loop-less Inv-loop μ-loop
+loop-less c = search needs
+
+loop-again : tie.Need-loop-again Inv-loop μ-loop
+loop-again c = (omega arith, rows-more _ _ _ _ _ _ _ (c .before .before .before .before .before .before .before .before .loop .inv .1) (c .before .before .before .before .fill-row .ensures))
+
+same-length : tie.Need-same-length Inv-loop μ-loop
+same-length c = search needs
+
+same-length-2 : tie.Need-same-length-2 Inv-loop μ-loop
+same-length-2 c = search needs
+
+returns : tie.Need-returns Inv-loop μ-loop
+returns c = let e : c .before .loop .row ≡ c .before .before .before .before .before .before .before .before .args .side = omega arith in rw e at (c .before .loop .inv .1)
+
+pub fill-product-spec : {M : Type 1} → statement M
+fill-product-spec =
+    tie.close
+    (tie.spec
+    Inv-loop
+    μ-loop
+    loop-holds
+    mul-fill-row
+    fill-row-requires
+    add-row
+    loop-less
+    loop-again
+    same-length
+    same-length-2
+    returns)

@@ -1,0 +1,74 @@
+-- `products::sums::fill_row` meets its contract: the row is filled again in each turn, with one inner index more. Assumes nothing.
+use Prim.Native.Nat.{_-_, _≤_}
+use mathlib.Core.Path.{_≡_}
+use borrow.Author.Needs.{needs}
+use native.Mathlib.Omega.{arith}
+use Rattle.book.specs.Answers.{buffers}
+use Rattle.matrices.specs.Filled.{Filled}
+use Rattle.products.specs.Sums.{rowDot}
+use Rattle.matrices.proofs.Sides.{row-end, start-fits}
+use Rattle.products.proofs.Dots.{row-none, row-more}
+use Rattle.matrices.proofs.Fills.{fewer, again, holds}
+use Rattle.products.proofs.sums.fill_row.Statement.{statement}
+use Rattle.products.proofs.sums.fill_row.Tie as tie
+
+abbrev Inv-loop : tie.InvT-loop
+Inv-loop ar ai br bi reals₀ imags₀ from side inner₀ reals imags inner = (inner ≤ side) × Filled from side (rowDot side from (buffers ar ai) (buffers br bi) inner) (buffers reals₀ imags₀) (buffers reals imags)
+
+abbrev μ-loop : tie.MeasureT-loop
+μ-loop ar ai br bi reals₀ imags₀ from side inner₀ reals imags inner = side - inner
+
+clear-row-requires : tie.Need-clear-row-requires Inv-loop μ-loop
+clear-row-requires c κs = search needs
+
+loop-holds : tie.Need-loop-holds Inv-loop μ-loop
+loop-holds c = (omega arith, row-none _ _ _ _ _ _ (c .before .before .before .before .clear-row .ensures))
+
+add-read-at : tie.Need-add-read-at Inv-loop μ-loop
+add-read-at c = search needs
+
+read-at-requires : tie.Need-read-at-requires Inv-loop μ-loop
+read-at-requires c κs = search needs
+
+mul-add-row : tie.Need-mul-add-row Inv-loop μ-loop
+mul-add-row c = record { fits = start-fits _ _ (c .before .before .before .loop-test .taken) (c .before .before .before .before .before .before .before .before .before .before .before .before .before .before .before .before .before .before .pre .0 .most) }
+
+add-row-requires : tie.Need-add-row-requires Inv-loop μ-loop
+add-row-requires c κs = (holds (c .before .before .before .before .loop .inv .1) (holds (c .before .before .before .before .before .before .before .before .before .clear-row .ensures) (c .before .before .before .before .before .before .before .before .before .before .before .before .before .before .before .before .before .before .pre .3)), fewer (row-end _ _ (c .before .before .before .loop-test .taken)) (c .before .before .before .before .before .before .before .before .before .before .before .before .before .before .before .before .before .before .pre .2))
+
+add-inner : tie.Need-add-inner Inv-loop μ-loop
+add-inner c = search needs
+
+loop-less : tie.Need-loop-less Inv-loop μ-loop
+loop-less c = search needs
+
+loop-again : tie.Need-loop-again Inv-loop μ-loop
+loop-again c = (omega (arith, c .before .before .before .before .before .before .before .before .loop-test .taken), row-more _ _ _ _ _ _ _ _ _ (c .before .before .before .before .before .before .before .before .before .loop .inv .1) (c .before .before .before .before .before .before .before .read-at .ensures) (c .before .before .before .before .add-row .ensures))
+
+same-length : tie.Need-same-length Inv-loop μ-loop
+same-length c = search needs
+
+same-length-2 : tie.Need-same-length-2 Inv-loop μ-loop
+same-length-2 c = search needs
+
+returns : tie.Need-returns Inv-loop μ-loop
+returns c = let e : c .before .loop .inner ≡ c .before .before .before .before .before .before .before .before .before .before .before .before .before .before .before .args .side = omega arith in again (c .before .before .before .before .before .before .clear-row .ensures) (rw e at (c .before .loop .inv .1))
+
+pub fill-row-spec : {M : Type 1} → statement M
+fill-row-spec =
+    tie.close
+    (tie.spec
+    Inv-loop
+    μ-loop
+    clear-row-requires
+    loop-holds
+    add-read-at
+    read-at-requires
+    mul-add-row
+    add-row-requires
+    add-inner
+    loop-less
+    loop-again
+    same-length
+    same-length-2
+    returns)

@@ -1,0 +1,60 @@
+-- `products::sums::row_dot` meets its contract: one inner index more in each turn. Assumes nothing.
+use Prim.Native.Nat.{_-_, _≤_}
+use mathlib.Core.Path.{_≡_, _∙_}
+use borrow.Author.Needs.{needs}
+use native.Mathlib.Omega.{arith}
+use Rattle.book.specs.Answers.{buffers}
+use Rattle.products.specs.Sums.{stateDot}
+use Rattle.matrices.proofs.Fills.{zero-is}
+use Rattle.products.proofs.Dots.{state-none, state-more}
+use Rattle.products.proofs.sums.row_dot.Statement.{statement}
+use Rattle.products.proofs.sums.row_dot.Tie as tie
+
+abbrev Inv-loop : tie.InvT-loop
+Inv-loop ar ai br bi from side sum₀ inner₀ sum inner = (inner ≤ side) × (sum ≡ stateDot (buffers ar ai) from (buffers br bi) inner)
+
+abbrev μ-loop : tie.MeasureT-loop
+μ-loop ar ai br bi from side sum₀ inner₀ sum inner = side - inner
+
+loop-holds : tie.Need-loop-holds Inv-loop μ-loop
+loop-holds c = (omega arith, zero-is ∙ state-none _ _ _)
+
+add-read-at : tie.Need-add-read-at Inv-loop μ-loop
+add-read-at c = search needs
+
+read-at-requires : tie.Need-read-at-requires Inv-loop μ-loop
+read-at-requires c κs = search needs
+
+read-at-requires-2 : tie.Need-read-at-requires-2 Inv-loop μ-loop
+read-at-requires-2 c κs = search needs
+
+add-product-requires : tie.Need-add-product-requires Inv-loop μ-loop
+add-product-requires c κs = search needs
+
+add-inner : tie.Need-add-inner Inv-loop μ-loop
+add-inner c = search needs
+
+loop-less : tie.Need-loop-less Inv-loop μ-loop
+loop-less c = search needs
+
+loop-again : tie.Need-loop-again Inv-loop μ-loop
+loop-again c = (omega arith, state-more _ _ _ _ (c .before .before .before .before .loop .inv .1) (c .before .before .read-at .ensures) (c .before .read-at2 .ensures) (c .add-product .ensures))
+
+returns : tie.Need-returns Inv-loop μ-loop
+returns c = let e : c .before .loop .inner ≡ c .before .before .before .before .before .before .args .side = omega arith in rw e at (c .before .loop .inv .1)
+
+pub row-dot-spec : {M : Type 1} → statement M
+row-dot-spec =
+    tie.close
+    (tie.spec
+    Inv-loop
+    μ-loop
+    loop-holds
+    add-read-at
+    read-at-requires
+    read-at-requires-2
+    add-product-requires
+    add-inner
+    loop-less
+    loop-again
+    returns)

@@ -1,3 +1,0 @@
--- What the reader's proofs share.
-mod Answered
-mod Codes

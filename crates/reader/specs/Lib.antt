@@ -1,2 +1,0 @@
--- What the reader's own functions answer.
-pub mod Answers
