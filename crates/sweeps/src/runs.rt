@@ -118,7 +118,7 @@ fn runs(
     }
 }
 
-// One pair at a turn, and two.
+// All runs with one pair at a turn.
 fn ones(
     reals: &mut [f64],
     imags: &mut [f64],
@@ -149,6 +149,7 @@ fn ones(
     )
 }
 
+// All runs with two.
 fn twos(
     reals: &mut [f64],
     imags: &mut [f64],

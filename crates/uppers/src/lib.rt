@@ -3,17 +3,16 @@ use book::Amplitude;
 use book::Angle;
 use book::Answer;
 use book::Controls;
-ghost use Prim.Native.Nat.{_+_, _%_, _≤_, _^_};
+ghost use Prim.Native.Nat.{_%_};
 ghost use lib.ListN.{length};
 ghost use mathlib.Core.Path.{_≡_};
 ghost use Rattle.book.specs.Answers.{buffers, Does};
 ghost use Rattle.book.specs.Gates.{pairGate};
 ghost use Rattle.book.specs.Kernels.{kernel};
-ghost use Rattle.book.specs.State.{at, onPairs};
+ghost use Rattle.book.specs.State.{onPairs};
 ghost use Rattle.rules.specs.Rules.{upperRule};
 ghost use Rattle.state.specs.Judging.{Seated};
-ghost use Rattle.state.specs.Pairs.{Turned, SameSize};
-ghost use Rattle.uppers.specs.Uppers.{masked, turnedAt};
+ghost use Rattle.uppers.specs.Uppers.{masked, turnedAt, Half, HalfTurned};
 
 // The place i, whose amplitude is cd: turned where the controls choose it.
 fn turn_at(ones: usize, upper: u32, angle: Angle, i: usize, cd: Amplitude) -> Amplitude
@@ -25,7 +24,7 @@ fn turn_at(ones: usize, upper: u32, angle: Angle, i: usize, cd: Amplitude) -> Am
     cd
 }
 
-// The lent half, whose first place is from.
+// The lent half, whose first place is from, one place at a turn.
 fn turn_along(
     reals: &mut [f64],
     imags: &mut [f64],
@@ -34,8 +33,8 @@ fn turn_along(
     upper: u32,
     angle: Angle,
 )
-    requires { ⌜ (length (now imags) ≡ length (now reals)) × (from + length (now reals) ≤ 2 ^ 24) ⌝ }
-    ensures { λ _. ⌜ Turned (λ j. turnedAt (masked ones) upper angle (from + j)) 0 (length (now (reals .entry))) (at (buffers (now (reals .entry)) (now (imags .entry)))) (at (buffers (now (reals .exit)) (now (imags .exit)))) × SameSize (buffers (now (reals .entry)) (now (imags .entry))) (buffers (now (reals .exit)) (now (imags .exit))) ⌝ }
+    requires { ⌜ Half from (buffers (now reals) (now imags)) ⌝ }
+    ensures { λ _. ⌜ HalfTurned ones upper angle from (buffers (now (reals .entry)) (now (imags .entry))) (buffers (now (reals .exit)) (now (imags .exit))) ⌝ }
 {
     let mut j = 0;
     while j < reals.len() {
@@ -50,7 +49,7 @@ fn turn_along(
     }
 }
 
-// The same by twos: both places are read before either is written, and one buffer's stores stand together.
+// Two places at a turn: both are read before either is written, and one buffer's stores stand together, so that the compiler can join them.
 fn turn_by_twos(
     reals: &mut [f64],
     imags: &mut [f64],
@@ -59,8 +58,8 @@ fn turn_by_twos(
     upper: u32,
     angle: Angle,
 )
-    requires { ⌜ (length (now imags) ≡ length (now reals)) × (from + length (now reals) ≤ 2 ^ 24) × (length (now reals) % 2 ≡ 0) ⌝ }
-    ensures { λ _. ⌜ Turned (λ j. turnedAt (masked ones) upper angle (from + j)) 0 (length (now (reals .entry))) (at (buffers (now (reals .entry)) (now (imags .entry)))) (at (buffers (now (reals .exit)) (now (imags .exit)))) × SameSize (buffers (now (reals .entry)) (now (imags .entry))) (buffers (now (reals .exit)) (now (imags .exit))) ⌝ }
+    requires { ⌜ Half from (buffers (now reals) (now imags)) × (length (now reals) % 2 ≡ 0) ⌝ }
+    ensures { λ _. ⌜ HalfTurned ones upper angle from (buffers (now (reals .entry)) (now (imags .entry))) (buffers (now (reals .exit)) (now (imags .exit))) ⌝ }
 {
     let mut j = 0;
     while j < reals.len() {
@@ -94,8 +93,8 @@ fn turn_half(
     upper: u32,
     angle: Angle,
 )
-    requires { ⌜ (length (now imags) ≡ length (now reals)) × (from + length (now reals) ≤ 2 ^ 24) ⌝ }
-    ensures { λ _. ⌜ Turned (λ j. turnedAt (masked ones) upper angle (from + j)) 0 (length (now (reals .entry))) (at (buffers (now (reals .entry)) (now (imags .entry)))) (at (buffers (now (reals .exit)) (now (imags .exit)))) × SameSize (buffers (now (reals .entry)) (now (imags .entry))) (buffers (now (reals .exit)) (now (imags .exit))) ⌝ }
+    requires { ⌜ Half from (buffers (now reals) (now imags)) ⌝ }
+    ensures { λ _. ⌜ HalfTurned ones upper angle from (buffers (now (reals .entry)) (now (imags .entry))) (buffers (now (reals .exit)) (now (imags .exit))) ⌝ }
 {
     let len = reals.len();
     if len < LONG {

@@ -27,18 +27,18 @@ turn : (c : tie.In-loop Inv-loop μ-loop) → Turn c
 turn c =
     let pre = c .before .before .before .before .pre in
     let inv = c .before .loop .inv in
-    let second : c .before .loop .j + 1 < length (c .before .loop .reals) = omega (arith, c .loop-test .taken, inv .1, inv .0 .same .reals, pre .2) in
+    let second : c .before .loop .j + 1 < length (c .before .loop .reals) = omega (arith, c .loop-test .taken, inv .1, inv .0 .same .reals, pre .1) in
     record {
       reals = second;
-      imags = omega (arith, second, inv .0 .same .reals, inv .0 .same .imags, pre .0);
-      small = omega (arith, second, inv .0 .same .reals, pre .1);
+      imags = omega (arith, second, inv .0 .same .reals, inv .0 .same .imags, pre .0 .0);
+      small = omega (arith, second, inv .0 .same .reals, pre .0 .1);
     }
 
 loop-again : tie.Need-loop-again Inv-loop μ-loop
 loop-again c =
     let at = c .before .before .before .before .before .before in
     let inv = at .before .loop .inv in (
-      walk-two-steps _ _ (at .before .before .before .before .pre .0) _ _ _ _ _ _ (inv .0) (turn at .reals) (c .before .turn-at .ensures) (c .turn-at2 .ensures),
+      walk-two-steps _ _ (at .before .before .before .before .pre .0 .0) _ _ _ _ _ _ (inv .0) (turn at .reals) (c .before .turn-at .ensures) (c .turn-at2 .ensures),
       omega (arith, inv .1),
     )
 
@@ -48,7 +48,7 @@ turn-by-twos-spec =
     (tie.spec
     Inv-loop
     μ-loop
-    (λ c. (walk-starts _ _ (c .before .before .pre .0), omega arith))
+    (λ c. (walk-starts _ _ (c .before .before .pre .0 .0), omega arith))
     (λ c. omega (arith, turn c))
     (λ c. search needs)
     (λ c. omega (arith, turn (c .before)))
@@ -75,4 +75,4 @@ turn-by-twos-spec =
     loop-again
     (λ c. c .before .loop .inv .0 .same .reals)
     (λ c. c .before .loop .inv .0 .same .imags)
-    (λ c. walk-ends _ _ (c .before .before .before .before .pre .0) _ _ (c .before .loop .inv .0) (c .loop-test .left)))
+    (λ c. walk-ends _ _ (c .before .before .before .before .pre .0 .0) _ _ (c .before .loop .inv .0) (c .loop-test .left)))
