@@ -1,6 +1,6 @@
 // The chosen pairs run by run, for the gates that need no F: each run is lent as one part of both buffers.
 // The compiler makes a loop for each form and each gate, since it knows the literals at a call, and in an arm the number that was matched:
-// so the arms are one call, and one proof serves them all.
+// so the arms are one call, and one proof serves them all. The last arm is no gate's.
 use super::pairs::read_pair;
 use super::pairs::write_pair;
 use super::pairs::write_two;
