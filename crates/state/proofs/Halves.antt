@@ -76,6 +76,17 @@ module _ (f : ℕ → Amplitude → Amplitude) (b₀ : Buffers) (equal : length 
         turned = turn-join f (omega arith) (omega arith) (u .turned) (turn-one f j b x y l (omega (arith, u .same .reals, u .same .imags)) e);
       }
 
+  -- two places at once
+  pub walk-two-steps : (j : ℕ) (b : Buffers) (x y z w : Float) → Walked f b₀ j b → j + 1 < length (b .reals) → amplitude x y ≡ f j (at b j) → amplitude z w ≡ f (j + 1) (at b (j + 1))
+      → Walked f b₀ (j + 2) (buffers (set (set (b .reals) j x) (j + 1) z) (set (set (b .imags) j y) (j + 1) w))
+  walk-two-steps j b x y z w u l e g =
+      let b₁ : Buffers = buffers (set (b .reals) j x) (set (b .imags) j y) in
+      let first = turn-one f j b x y (omega arith) (omega (arith, u .same .reals, u .same .imags)) e in
+      let two : j + 1 + 1 ≡ j + 2 = omega arith in
+      subst (λ (k : ℕ). Walked f b₀ k (buffers (set (b₁ .reals) (j + 1) z) (set (b₁ .imags) (j + 1) w))) two
+      (walk-steps (j + 1) b₁ z w (walk-steps j b x y u (omega arith) e)
+      (omega (arith, length-set (b .reals) j x)) (g ∙ ap (f (j + 1)) (sym (first .after (j + 1) (omega arith)))))
+
   pub walk-ends : (j : ℕ) (b : Buffers) → Walked f b₀ j b → length (b .reals) ≤ j → Turned f 0 (length (b₀ .reals)) (at b₀) (at b) × SameSize b₀ b
   walk-ends j b u l =
       let e : j ≡ length (b₀ .reals) = omega (arith, u .within, u .same .reals) in

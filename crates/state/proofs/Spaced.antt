@@ -13,7 +13,7 @@ use Rattle.book.specs.Answers.{Buffers, buffers}
 use Rattle.book.specs.State.{State, amplitude, at, pair}
 use Rattle.book.specs.declared.Pair.{Pair}
 use Rattle.state.specs.Pairs.{TwoPlaces, pairAt, Stepped, SameSize, Apart, Paired}
-use Rattle.state.specs.Runs.{Spaced, lastOf, Run, Ran, FourPlaces, WrittenTwo}
+use Rattle.state.specs.Runs.{Spaced, Run, Ran, FourPlaces, WrittenTwo}
 use Rattle.state.proofs.Loop.{nothing, one, join}
 
 -- two multiples of s are s apart
@@ -28,7 +28,7 @@ gap s i j zi zj l =
     omega (arith, add-mul p 1 s, one-mul s)
 
 -- a multiple of 2 s is one of s
-halved : (s i : ℕ) → i % (s * 2) ≡ 0 → i % s ≡ 0
+pub halved : (s i : ℕ) → i % (s * 2) ≡ 0 → i % s ≡ 0
 halved s i z =
     let q : ℕ = i / (s * 2) in
     let e : q * (s * 2) ≡ i = omega (arith, div-add-mod' i (s * 2)) in
@@ -93,24 +93,24 @@ written-two b s0 s1 k p q ok = (
 )
 
 -- ---- what a walk keeps, at its place i; step is the stride, or twice the stride
-pub record Walk (rule : Pair → Pair) (d stride step : ℕ) (b₀ : Buffers) (i : ℕ) (b : Buffers) : Type 0 where
+pub record Walk (rule : Pair → Pair) (run d stride step : ℕ) (b₀ : Buffers) (i : ℕ) (b : Buffers) : Type 0 where
   pub same : SameSize b₀ b
   pub on : i % step ≡ 0
-  pub done : Paired rule (Spaced stride (lastOf d b₀)) (λ i. i) (λ i. i + d) 0 i (at b₀) (at b)
+  pub done : Paired rule (Spaced stride run) (λ i. i) (λ i. i + d) 0 i (at b₀) (at b)
 
-module _ {d stride : ℕ} {b₀ : Buffers} (ok : Run d stride b₀) where
-  aparts : Apart (Spaced stride (lastOf d b₀)) (λ i. i) (λ i. i + d)
+module _ {run d stride : ℕ} {b₀ : Buffers} (ok : Run run d stride b₀) where
+  aparts : Apart (Spaced stride run) (λ i. i) (λ i. i + d)
   aparts = record { lower = λ v w k l e. e; upper = λ v w k l e. omega arith; cross = λ v w k l e. ok .apart v w k l e }
 
   -- d is not 0, since a place is in one pair only
-  not-zero : (i : ℕ) → Spaced stride (lastOf d b₀) i → d ≡ 0 → ⊥
+  not-zero : (i : ℕ) → Spaced stride run i → d ≡ 0 → ⊥
   not-zero i k e = ok .apart i i k k (omega arith)
 
-  pub walk-starts : {rule : Pair → Pair} (step : ℕ) → Walk rule d stride step b₀ 0 b₀
+  pub walk-starts : {rule : Pair → Pair} (step : ℕ) → Walk rule run d stride step b₀ 0 b₀
   walk-starts {rule} step =
-      record { same = record { reals = refl; imags = refl }; on = zero-mod step; done = nothing rule (Spaced stride (lastOf d b₀)) (λ i. i) (λ i. i + d) 0 0 (at b₀) (λ w k x y. omega arith) }
+      record { same = record { reals = refl; imags = refl }; on = zero-mod step; done = nothing rule (Spaced stride run) (λ i. i) (λ i. i + d) 0 0 (at b₀) (λ w k x y. omega arith) }
 
-  pub walk-ends : {rule : Pair → Pair} {step i : ℕ} {b : Buffers} → Walk rule d stride step b₀ i b → (lastOf d b₀) ≤ i → Ran rule d stride b₀ b
+  pub walk-ends : {rule : Pair → Pair} {step i : ℕ} {b : Buffers} → Walk rule run d stride step b₀ i b → run ≤ i → Ran rule run d stride b₀ b
   walk-ends {b = b} u l =
       record {
         same = u .same;
@@ -121,42 +121,51 @@ module _ {d stride : ℕ} {b₀ : Buffers} (ok : Run d stride b₀) where
         };
       }
 
-  module _ {rule : Pair → Pair} {step i : ℕ} {b b′ : Buffers} (u : Walk rule d stride step b₀ i b) (sm : SameSize b b′)
-      (p : Paired rule (Spaced stride (lastOf d b₀)) (λ j. j) (λ j. j + d) i (i + step) (at b) (at b′)) where
-    walk-on : Walk rule d stride step b₀ (i + step) b′
+  module _ {rule : Pair → Pair} {step i : ℕ} {b b′ : Buffers} (u : Walk rule run d stride step b₀ i b) (sm : SameSize b b′)
+      (p : Paired rule (Spaced stride run) (λ j. j) (λ j. j + d) i (i + step) (at b) (at b′)) where
+    walk-on : Walk rule run d stride step b₀ (i + step) b′
     walk-on =
         record {
           same = record { reals = sm .reals ∙ u .same .reals; imags = sm .imags ∙ u .same .imags };
           on = add-mod-right i step ∙ u .on;
-          done = join rule (Spaced stride (lastOf d b₀)) (λ j. j) (λ j. j + d) aparts (omega arith) (omega arith) (u .done) p;
+          done = join rule (Spaced stride run) (λ j. j) (λ j. j + d) aparts (omega arith) (omega arith) (u .done) p;
         }
 
   -- one pair at a turn
-  module _ {rule : Pair → Pair} {i : ℕ} {b : Buffers} (u : Walk rule d stride stride b₀ i b) (l : i < (lastOf d b₀)) where
+  module _ {rule : Pair → Pair} {i : ℕ} {b : Buffers} (u : Walk rule run d stride stride b₀ i b) (l : i < run) where
+    pub one-room : i + d < length (b₀ .reals)
+    one-room = ok .room i (u .on, l)
+
     pub one-asks : TwoPlaces b i (i + d)
     one-asks =
         record {
           apart = omega (arith, not-zero i (u .on, l));
-          reals = omega (arith, u .same .reals);
-          imags = omega (arith, u .same .imags, ok .equal);
+          reals = omega (arith, one-room, u .same .reals);
+          imags = omega (arith, one-room, u .same .imags, ok .equal);
         }
 
-    pub one-steps : {b′ : Buffers} → Stepped rule i (i + d) (at b) (at b′) × SameSize b b′ → Walk rule d stride stride b₀ (i + stride) b′
+    pub one-steps : {b′ : Buffers} → Stepped rule i (i + d) (at b) (at b′) × SameSize b b′ → Walk rule run d stride stride b₀ (i + stride) b′
     one-steps {b′} st =
         walk-on u (st .1)
-        (join rule (Spaced stride (lastOf d b₀)) (λ j. j) (λ j. j + d) aparts (omega arith) (omega (arith, ok .some)) (one rule (Spaced stride (lastOf d b₀)) (λ j. j) (λ j. j + d) (u .on, l) (st .0))
-        (nothing rule (Spaced stride (lastOf d b₀)) (λ j. j) (λ j. j + d) (i + 1) (i + stride) (at b′) (λ w k x y. omega (arith, gap stride i w (u .on) (k .0) (let h : i < w = omega arith in h)))))
+        (join rule (Spaced stride run) (λ j. j) (λ j. j + d) aparts (omega arith) (omega (arith, ok .some)) (one rule (Spaced stride run) (λ j. j) (λ j. j + d) (u .on, l) (st .0))
+        (nothing rule (Spaced stride run) (λ j. j) (λ j. j + d) (i + 1) (i + stride) (at b′) (λ w k x y. omega (arith, gap stride i w (u .on) (k .0) (let h : i < w = omega arith in h)))))
 
   -- two pairs at a turn
-  module _ {rule : Pair → Pair} {i : ℕ} {b : Buffers} (u : Walk rule d stride (stride * 2) b₀ i b) (l : i < (lastOf d b₀)) where
+  module _ {rule : Pair → Pair} {i : ℕ} {b : Buffers} (u : Walk rule run d stride (stride * 2) b₀ i b) (l : i < run) where
     on : i % stride ≡ 0
     on = halved stride i (u .on)
 
-    next : i + stride < (lastOf d b₀)
+    next : i + stride < run
     next = ok .even i (u .on) l
 
     on-next : (i + stride) % stride ≡ 0
     on-next = add-mod-right i stride ∙ on
+
+    pub two-room : i + d < length (b₀ .reals)
+    two-room = ok .room i (on, l)
+
+    pub two-room-next : i + stride + d < length (b₀ .reals)
+    two-room-next = ok .room (i + stride) (on-next, next)
 
     ne : d ≡ 0 → ⊥
     ne = not-zero i (on, l)
@@ -168,16 +177,16 @@ module _ {d stride : ℕ} {b₀ : Buffers} (ok : Run d stride b₀) where
     two-asks =
         record {
           apart = omega (arith, ne);
-          reals = omega (arith, u .same .reals);
-          imags = omega (arith, u .same .imags, ok .equal);
+          reals = omega (arith, two-room, u .same .reals);
+          imags = omega (arith, two-room, u .same .imags, ok .equal);
         }
 
     pub two-asks-next : TwoPlaces b (i + stride) (i + stride + d)
     two-asks-next =
         record {
           apart = omega (arith, ne);
-          reals = omega (arith, next, u .same .reals);
-          imags = omega (arith, next, u .same .imags, ok .equal);
+          reals = omega (arith, two-room-next, u .same .reals);
+          imags = omega (arith, two-room-next, u .same .imags, ok .equal);
         }
 
     pub two-asks-four : FourPlaces b i (i + d) stride
@@ -186,12 +195,12 @@ module _ {d stride : ℕ} {b₀ : Buffers} (ok : Run d stride b₀) where
           order = omega (arith, ne);
           some = ok .some;
           apart = ne-stride;
-          reals = omega (arith, next, u .same .reals);
-          imags = omega (arith, next, u .same .imags, ok .equal);
+          reals = omega (arith, two-room-next, u .same .reals);
+          imags = omega (arith, two-room-next, u .same .imags, ok .equal);
           small = omega (arith, ok .small, u .same .reals);
         }
 
-    either : (w : ℕ) → Spaced stride (lastOf d b₀) w → i ≤ w → w < i + stride * 2 → (w ≡ i) ⊎ (w ≡ i + stride)
+    either : (w : ℕ) → Spaced stride run w → i ≤ w → w < i + stride * 2 → (w ≡ i) ⊎ (w ≡ i + stride)
     either w k x y =
         elim (ℕ-discrete w i) [
           | yes e ↦ inl e
@@ -201,11 +210,11 @@ module _ {d stride : ℕ} {b₀ : Buffers} (ok : Run d stride b₀) where
           ]
         ]
       where
-        beyond : (w : ℕ) → Spaced stride (lastOf d b₀) w → i + stride < w → w < i + stride * 2 → ⊥
+        beyond : (w : ℕ) → Spaced stride run w → i + stride < w → w < i + stride * 2 → ⊥
         beyond w k x y = omega (arith, gap stride (i + stride) w on-next (k .0) x)
 
     pub two-steps : {b′ : Buffers} {p q v w : Pair} → p ≡ pairAt b i (i + d) → q ≡ pairAt b (i + stride) (i + stride + d) → v ≡ rule p → w ≡ rule q
-        → WrittenTwo i (i + d) stride v w (at b) (at b′) × SameSize b b′ → Walk rule d stride (stride * 2) b₀ (i + stride * 2) b′
+        → WrittenTwo i (i + d) stride v w (at b) (at b′) × SameSize b b′ → Walk rule run d stride (stride * 2) b₀ (i + stride * 2) b′
     two-steps {b′} {p} {q} {v} {w} ep eq ev ew wr = walk-on u (wr .1) both
       where
         s : State
@@ -214,7 +223,7 @@ module _ {d stride : ℕ} {b₀ : Buffers} (ok : Run d stride b₀) where
         far : i + stride + d ≡ i + d + stride
         far = omega arith
 
-        both : Paired rule (Spaced stride (lastOf d b₀)) (λ j. j) (λ j. j + d) i (i + stride * 2) (at b) (at b′)
+        both : Paired rule (Spaced stride run) (λ j. j) (λ j. j + d) i (i + stride * 2) (at b) (at b′)
         both =
             record {
               lower = λ x k a c. ⊎-elim

@@ -14,14 +14,14 @@ use Rattle.book.specs.Answers.{Buffers}
 use Rattle.book.specs.State.{at, pair}
 use Rattle.book.specs.declared.Pair.{Pair}
 use Rattle.state.specs.Pairs.{SameSize, Paired, Has, Swept}
-use Rattle.state.specs.Runs.{Spaced, lastOf, Run, Ran, Cut, Runs}
+use Rattle.state.specs.Runs.{Spaced, Run, Ran, Cut, Runs}
 use Rattle.state.proofs.Bits.{or-ge, or-covers, next-least}
 use Rattle.state.proofs.Cuts.{pow-split}
 use Rattle.state.proofs.Keys.{key-ge, apart}
 use Rattle.state.proofs.Lending.{lent, returned, lent-reals, lent-imags, lent-place, back-same, back-inside, back-before, back-after}
 use Rattle.state.proofs.Loop.{nothing, join, Same, Same′, renumber}
 use Rattle.state.proofs.Shifts.{pow-le}
-use Rattle.state.proofs.Spaced.{gap}
+use Rattle.state.proofs.Spaced.{gap, halved}
 
 -- ---- which numbers of a run are keys
 module _ {n wide run stride : ℕ} (c : Cut n wide run stride) where
@@ -98,26 +98,29 @@ module _ {n wide run stride : ℕ} (c : Cut n wide run stride) where
       let xl : x < 2 ^ (n - c .r) = lt-of-mul-lt-mul-right (2 ^ (c .r)) (omega arith) in
       omega (arith, c .run-is, mul-le-mul-right {m = x + 1} {n = 2 ^ (n - c .r)} (2 ^ (c .r)) (omega arith), add-mul x 1 (2 ^ (c .r)), one-mul (2 ^ (c .r)))
 
-  -- the pairs of a run go by twos
-  run-even : (i : ℕ) → i % (stride * 2) ≡ 0 → i < run - (stride - 1) → i + stride < run - (stride - 1)
-  run-even i z l =
+  -- the pairs of a run go by twos, and the last ends with the run
+  run-twos : run % (stride * 2) ≡ 0
+  run-twos =
       let k : ℕ = c .k in
       let p : 2 ^ (c .r) ≡ 2 ^ (c .r - suc k) * 2 ^ suc k = pow-split (suc k) (c .r) (c .below) in
       let q : 2 ^ suc k ≡ stride * 2 = pow-suc 2 k ∙ ap (λ (x : ℕ). x * 2) (sym (c .stride-is)) in
-      let m : run % (stride * 2) ≡ 0 =
-      ap (λ (x : ℕ). x % (stride * 2)) (c .run-is ∙ p ∙ ap (λ (x : ℕ). 2 ^ (c .r - suc k) * x) q) ∙ mul-mod-left (2 ^ (c .r - suc k)) (stride * 2) in
-      omega (arith, gap (stride * 2) i run z m (omega arith), stride-pos)
+      ap (λ (x : ℕ). x % (stride * 2)) (c .run-is ∙ p ∙ ap (λ (x : ℕ). 2 ^ (c .r - suc k) * x) q) ∙ mul-mod-left (2 ^ (c .r - suc k)) (stride * 2)
+
+  run-even : (i : ℕ) → i % (stride * 2) ≡ 0 → i < run → i + stride < run
+  run-even i z l = omega (arith, gap (stride * 2) i run z run-twos l, stride-pos)
+
+  run-last : (i : ℕ) → Spaced stride run i → i + stride ≤ run
+  run-last i s = gap stride i run (s .0) (halved stride run run-twos) (s .1)
 
 -- ---- a part that was lent from a on and came back with the rule put to its pairs
-module _ (rule : Pair → Pair) (Key : ℕ → Type 0) (d a k : ℕ) (b p : Buffers) (fr : a + k ≤ length (b .reals)) (fi : a + k ≤ length (b .imags)) (same : SameSize (lent a k b) p)
-    (dk : d ≤ k) where
-  lift : ((i : ℕ) → Key i → i < k - d) → Paired rule Key (λ i. i) (λ i. i + d) 0 (k - d) (at (lent a k b)) (at p)
-      → Paired rule Key (λ i. a + i) (λ i. a + i + d) 0 (k - d) (at b) (at (returned a k b p))
-  lift below q =
+module _ (rule : Pair → Pair) (Key : ℕ → Type 0) (d a k run : ℕ) (b p : Buffers) (fr : a + k ≤ length (b .reals)) (fi : a + k ≤ length (b .imags)) (same : SameSize (lent a k b) p)
+    (room : (i : ℕ) → Key i → i + d < k) where
+  lift : Paired rule Key (λ i. i) (λ i. i + d) 0 run (at (lent a k b)) (at p) → Paired rule Key (λ i. a + i) (λ i. a + i + d) 0 run (at b) (at (returned a k b p))
+  lift q =
       record {
-        lower = λ j key x y. back-inside a k b fr fi p same j (omega arith) ∙ q .lower j key x y ∙ ap (λ (z : Pair). rule z .s0) (read j y);
-        upper = λ j key x y. ap (at (returned a k b p)) (sym (far j)) ∙ back-inside a k b fr fi p same (j + d) (omega arith) ∙ q .upper j key x y
-            ∙ ap (λ (z : Pair). rule z .s1) (read j y);
+        lower = λ j key x y. back-inside a k b fr fi p same j (omega (arith, room j key)) ∙ q .lower j key x y ∙ ap (λ (z : Pair). rule z .s0) (read j key);
+        upper = λ j key x y. ap (at (returned a k b p)) (sym (far j)) ∙ back-inside a k b fr fi p same (j + d) (room j key) ∙ q .upper j key x y
+            ∙ ap (λ (z : Pair). rule z .s1) (read j key);
         others = λ i f.
             elim (decLt i a) [
               | yes x ↦ back-before a k b fr fi p same i x
@@ -128,10 +131,10 @@ module _ (rule : Pair → Pair) (Key : ℕ → Type 0) (d a k : ℕ) (b p : Buff
       far : (j : ℕ) → a + (j + d) ≡ a + j + d
       far j = omega arith
 
-      read : (j : ℕ) → j < k - d → pair (at (lent a k b) j) (at (lent a k b) (j + d)) ≡ pair (at b (a + j)) (at b (a + j + d))
-      read j h = ap₂ pair (lent-place a k b fr fi j (omega arith)) (lent-place a k b fr fi (j + d) (omega arith) ∙ ap (at b) (far j))
+      read : (j : ℕ) → Key j → pair (at (lent a k b) j) (at (lent a k b) (j + d)) ≡ pair (at b (a + j)) (at b (a + j + d))
+      read j key = ap₂ pair (lent-place a k b fr fi j (omega (arith, room j key))) (lent-place a k b fr fi (j + d) (room j key) ∙ ap (at b) (far j))
 
-      inner : (i : ℕ) → a ≤ i → i < a + k → ((j : ℕ) → Key j → 0 ≤ j → j < k - d → (i ≡ a + j) ⊎ (i ≡ a + j + d) → ⊥) → at (returned a k b p) i ≡ at b i
+      inner : (i : ℕ) → a ≤ i → i < a + k → ((j : ℕ) → Key j → 0 ≤ j → j < run → (i ≡ a + j) ⊎ (i ≡ a + j + d) → ⊥) → at (returned a k b p) i ≡ at b i
       inner i x y f =
           let m : ℕ = i - a in
           let e : a + m ≡ i = omega arith in
@@ -140,21 +143,14 @@ module _ (rule : Pair → Pair) (Key : ℕ → Type 0) (d a k : ℕ) (b p : Buff
           ∙ q .others m (λ j key u v w. f j key u v (⊎-elim (λ h. inl (let g : i ≡ a + j = omega arith in g)) (λ h. inr (let g : i ≡ a + j + d = omega arith in g)) w))
           ∙ lent-place a k b fr fi m (omega arith))
 
--- the length of the lent part, and of its pairs
-module _ (u low run back0 back1 : ℕ) (reach : back0 ≤ u + low) (order : back1 < back0) (below : low ≤ run) where
-  span : u + run - back1 - (u + low - back0) ≡ run - low + (back0 - back1)
-  span =
+-- the length of the lent part, and its places: those of the key u + low + j are those of j in the part
+module _ (u low run back0 back1 : ℕ) (reach : back0 ≤ u + low) (order : back1 < back0) where
+  span-room : (i : ℕ) → i + (low + 1) ≤ run → i + (back0 - back1) < u + run - back1 - (u + low - back0)
+  span-room i h =
       let a : ℕ = u + low - back0 in
       let e : a + back0 ≡ u + low = omega arith in
       omega arith
 
-  span-last : u + run - back1 - (u + low - back0) - (back0 - back1) ≡ run - low
-  span-last = ap (λ (x : ℕ). x - (back0 - back1)) span ∙ omega arith
-
-  span-le : back0 - back1 ≤ u + run - back1 - (u + low - back0)
-  span-le = rw span (omega arith)
-
-  -- the places of the key u + low + j are those of j in the part
   span-lower : (j : ℕ) → u + low + j - back0 ≡ u + low - back0 + j
   span-lower j = omega arith
 
@@ -163,9 +159,6 @@ module _ (u low run back0 back1 : ℕ) (reach : back0 ≤ u + low) (order : back
 
   span-cross : (i j : ℕ) → i ≡ j + (back0 - back1) → u + low + i - back0 ≡ u + low + j - back1
   span-cross i j e = omega arith
-
-  span-in : (v m : ℕ) → low ≤ v → v < run → m ≡ run - low → v - low < m
-  span-in v m x y e = omega arith
 
 -- ---- what the loop keeps, at the start u of a run
 pub record Turns (rule : Pair → Pair) (n wide run stride back0 back1 : ℕ) (b₀ : Buffers) (u : ℕ) (b : Buffers) : Type 0 where
@@ -206,16 +199,16 @@ module _ {n wide run stride back0 back1 : ℕ} {b₀ : Buffers} (ok : Runs n wid
 
   module _ {rule : Pair → Pair} {u : ℕ} {b : Buffers} (t : Turns rule n wide run stride back0 back1 b₀ u b) where
     -- the run's keys
-    own : (j : ℕ) → j % stride ≡ 0 → j < run - (stride - 1) → Has (wide + (stride - 1)) (u + (stride - 1) + j)
-    own j z l =
+    own : (j : ℕ) → Spaced stride run j → Has (wide + (stride - 1)) (u + (stride - 1) + j)
+    own j s =
         let e : t .turn * 2 ^ (t .cut .r) + (stride - 1 + j) ≡ u + (stride - 1) + j = omega (arith, t .here) in
-        subst (Has (wide + (stride - 1))) e (run-on (t .cut) (t .turn) j (t .on) (omega (arith, t .cut .run-is)) z)
+        subst (Has (wide + (stride - 1))) e (run-on (t .cut) (t .turn) j (t .on) (omega (arith, t .cut .run-is, run-last (t .cut) j s, stride-pos (t .cut))) (s .0))
 
     pub numbers : u < 2 ^ n → Numbers n run stride back0 back1 u b
     numbers l =
         let le : stride * 2 ≤ run = omega (arith, stride-le (t .cut), t .cut .run-is) in
         let first : u + (stride - 1) + 0 ≡ u + (stride - 1) = omega arith in
-        let k : Has (wide + (stride - 1)) (u + (stride - 1)) = subst (Has (wide + (stride - 1))) first (own 0 (zero-mod stride) (omega (arith, stride-pos (t .cut)))) in
+        let k : Has (wide + (stride - 1)) (u + (stride - 1)) = subst (Has (wide + (stride - 1))) first (own 0 (zero-mod stride, omega (arith, le, stride-pos (t .cut)))) in
         record {
           some = stride-pos (t .cut);
           low = le;
@@ -227,9 +220,6 @@ module _ {n wide run stride back0 back1 : ℕ} {b₀ : Buffers} (ok : Runs n wid
           imags = t .same .imags ∙ ok .keyed .imags;
         }
 
-    under : u < 2 ^ n → stride - 1 ≤ run
-    under l = let q = numbers l in omega (arith, q .low, q .some)
-
     module _ (l : u < 2 ^ n) where
       abbrev a : ℕ
       a = u + (stride - 1) - back0
@@ -240,57 +230,48 @@ module _ {n wide run stride back0 back1 : ℕ} {b₀ : Buffers} (ok : Runs n wid
       fits : a + k ≤ 2 ^ n
       fits = omega (arith, numbers l)
 
-      last-is : k - (back0 - back1) ≡ run - (stride - 1)
-      last-is = span-last u (stride - 1) run back0 back1 (numbers l .reach) (numbers l .order) (under l)
-
-      wide-enough : back0 - back1 ≤ k
-      wide-enough = span-le u (stride - 1) run back0 back1 (numbers l .reach) (numbers l .order) (under l)
+      room : (i : ℕ) → Spaced stride run i → i + (back0 - back1) < k
+      room i s =
+          let q = numbers l in
+          span-room u (stride - 1) run back0 back1 (q .reach) (q .order) i (omega (arith, run-last (t .cut) i s, q .some))
 
       lower-at : (j : ℕ) → u + (stride - 1) + j - back0 ≡ a + j
-      lower-at j = span-lower u (stride - 1) run back0 back1 (numbers l .reach) (numbers l .order) (under l) j
+      lower-at j = span-lower u (stride - 1) run back0 back1 (numbers l .reach) (numbers l .order) j
 
       upper-at : (j : ℕ) → u + (stride - 1) + j - back1 ≡ a + j + (back0 - back1)
-      upper-at j = span-upper u (stride - 1) run back0 back1 (numbers l .reach) (numbers l .order) (under l) j
-
-      in-part : (v : ℕ) → stride - 1 ≤ v → v < run → v - (stride - 1) < k - (back0 - back1)
-      in-part v x y = span-in u (stride - 1) run back0 back1 (numbers l .reach) (numbers l .order) (under l) v (k - (back0 - back1)) x y last-is
-
-      inside-run : (v : ℕ) → v < run - (stride - 1) → u + (stride - 1) + v < u + run
-      inside-run v y = omega arith
+      upper-at j = span-upper u (stride - 1) run back0 back1 (numbers l .reach) (numbers l .order) j
 
       -- a key of the run and its number in the part, either way
       abbrev Found : ℕ → ℕ → Type 0
       Found =
-          Same′ rule (Has (wide + (stride - 1))) (λ v. v - back0) (λ v. v - back1) (Spaced stride (k - (back0 - back1)))
-          (λ i. a + i) (λ i. a + i + (back0 - back1)) u (u + run) 0 (k - (back0 - back1))
+          Same′ rule (Has (wide + (stride - 1))) (λ v. v - back0) (λ v. v - back1) (Spaced stride run)
+          (λ i. a + i) (λ i. a + i + (back0 - back1)) u (u + run) 0 run
 
       abbrev Back : ℕ → ℕ → Type 0
       Back =
-          Same rule (Has (wide + (stride - 1))) (λ v. v - back0) (λ v. v - back1) (Spaced stride (k - (back0 - back1)))
-          (λ i. a + i) (λ i. a + i + (back0 - back1)) u (u + run) 0 (k - (back0 - back1))
+          Same rule (Has (wide + (stride - 1))) (λ v. v - back0) (λ v. v - back1) (Spaced stride run)
+          (λ i. a + i) (λ i. a + i + (back0 - back1)) u (u + run) 0 run
 
-      pub turns-ask : Run (back0 - back1) stride (lent a k b)
+      pub turns-ask : Run run (back0 - back1) stride (lent a k b)
       turns-ask =
           let q = numbers l in
           let fr : a + k ≤ length (b .reals) = omega (arith, fits, q .reals) in
           let fi : a + k ≤ length (b .imags) = omega (arith, fits, q .imags) in
           let lr : length (lent a k b .reals) ≡ k = lent-reals a k b fr fi in
           let li : length (lent a k b .imags) ≡ k = lent-imags a k b fr fi in
-          let la : lastOf (back0 - back1) (lent a k b) ≡ run - (stride - 1) = ap (λ (x : ℕ). x - (back0 - back1)) lr ∙ last-is in
-          let low : stride - 1 ≤ run = under l in
           record {
             equal = li ∙ sym lr;
             small = omega (arith, fits, q);
             some = q .some;
             narrow = omega (arith, q);
-            room = omega (arith, wide-enough, lr);
+            room = λ i s. omega (arith, lr, room i s);
             apart = λ i j x y e.
-                apart (ok .keyed) .cross (u + (stride - 1) + i) (u + (stride - 1) + j) (own i (x .0) (rw la at (x .1))) (own j (y .0) (rw la at (y .1)))
-                (span-cross u (stride - 1) run back0 back1 (q .reach) (q .order) low i j e);
-            even = λ i z x. rw la (run-even (t .cut) i z (rw la at x));
+                apart (ok .keyed) .cross (u + (stride - 1) + i) (u + (stride - 1) + j) (own i x) (own j y)
+                (span-cross u (stride - 1) run back0 back1 (q .reach) (q .order) i j e);
+            even = run-even (t .cut);
           }
 
-      pub turns-step : (p : Buffers) → Ran rule (back0 - back1) stride (lent a k b) p
+      pub turns-step : (p : Buffers) → Ran rule run (back0 - back1) stride (lent a k b) p
           → Turns rule n wide run stride back0 back1 b₀ (bitOr (u + run) wide) (returned a k b p)
       turns-step p ran =
           let q = numbers l in
@@ -315,19 +296,16 @@ module _ {n wide run stride back0 back1 : ℕ} {b₀ : Buffers} (ok : Runs n wid
           }
         where
           -- the run itself
-          this : (p : Buffers) → Ran rule (back0 - back1) stride (lent a k b) p
+          this : (p : Buffers) → Ran rule run (back0 - back1) stride (lent a k b) p
               → Paired rule (Has (wide + (stride - 1))) (λ v. v - back0) (λ v. v - back1) u (u + run) (at b) (at (returned a k b p))
           this p ran =
               let q = numbers l in
               let fr : a + k ≤ length (b .reals) = omega (arith, fits, q .reals) in
               let fi : a + k ≤ length (b .imags) = omega (arith, fits, q .imags) in
-              let lr : length (lent a k b .reals) ≡ k = lent-reals a k b fr fi in
-              let la : lastOf (back0 - back1) (lent a k b) ≡ k - (back0 - back1) = ap (λ (x : ℕ). x - (back0 - back1)) lr in
-              let pairs = subst (λ (m : ℕ). Paired rule (Spaced stride m) (λ i. i) (λ i. i + (back0 - back1)) 0 m (at (lent a k b)) (at p)) la (ran .pairs) in
-              let lifted = lift rule (Spaced stride (k - (back0 - back1))) (back0 - back1) a k b p fr fi (ran .same) wide-enough (λ i key. key .1) pairs in
+              let lifted = lift rule (Spaced stride run) (back0 - back1) a k run b p fr fi (ran .same) room (ran .pairs) in
               renumber rule (Has (wide + (stride - 1))) (λ v. v - back0) (λ v. v - back1)
-              (Spaced stride (k - (back0 - back1))) (λ i. a + i) (λ i. a + i + (back0 - back1)) u (u + run) 0 (k - (back0 - back1))
-              (λ w key x y. found w key x y) (λ v key x y. back v key y) lifted
+              (Spaced stride run) (λ i. a + i) (λ i. a + i + (back0 - back1)) u (u + run) 0 run
+              found (λ v key x y. back v key) lifted
             where
               found : (w : ℕ) → Has (wide + (stride - 1)) w → u ≤ w → w < u + run → (v : ℕ) × Found w v
               found w key x y =
@@ -337,7 +315,7 @@ module _ {n wide run stride back0 back1 : ℕ} {b₀ : Buffers} (ok : Runs n wid
                   let o = cut-on (t .cut) (t .turn) v (omega (arith, t .cut .run-is)) (subst (Has (wide + (stride - 1))) e key) .1 in
                   let f = low-off (t .cut) v o in
                   let h : w ≡ u + (stride - 1) + (v - (stride - 1)) = omega (arith, f .0) in
-                  let m : v - (stride - 1) < k - (back0 - back1) = in-part v (f .0) vr in (
+                  let m : v - (stride - 1) < run = omega arith in (
                     v - (stride - 1),
                     record {
                       key = (f .1, m);
@@ -348,18 +326,17 @@ module _ {n wide run stride back0 back1 : ℕ} {b₀ : Buffers} (ok : Runs n wid
                     },
                   )
 
-              back : (v : ℕ) → Spaced stride (k - (back0 - back1)) v → v < k - (back0 - back1) → (w : ℕ) × Back v w
-              back v key y =
-                  let m : v < run - (stride - 1) = rw last-is at y in (
-                    u + (stride - 1) + v,
-                    record {
-                      key = own v (key .0) m;
-                      from = omega arith;
-                      below = inside-run v m;
-                      lower = lower-at v;
-                      upper = upper-at v;
-                    },
-                  )
+              back : (v : ℕ) → Spaced stride run v → (w : ℕ) × Back v w
+              back v key = (
+                u + (stride - 1) + v,
+                record {
+                  key = own v key;
+                  from = omega arith;
+                  below = omega (arith, run-last (t .cut) v key, stride-pos (t .cut));
+                  lower = lower-at v;
+                  upper = upper-at v;
+                },
+              )
 
     pub turns-end : 2 ^ n ≤ u → Swept rule n (wide + (stride - 1)) back0 back1 b₀ b
     turns-end l =

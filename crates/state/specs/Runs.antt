@@ -7,28 +7,25 @@ use Rattle.book.specs.State.{State, at}
 use Rattle.book.specs.declared.Pair.{Pair}
 use Rattle.state.specs.Pairs.{SameSize, Paired, Keyed}
 
--- ---- the lent part: its pairs are at i and i + d, for each stride-th i below last
+-- ---- the lent part: its pairs are at i and i + d, for each stride-th i below run
 
 abbrev pub Spaced : ℕ → ℕ → ℕ → Type 0
-Spaced stride last i = (i % stride ≡ 0) × (i < last)
-
-abbrev pub lastOf : ℕ → Buffers → ℕ
-lastOf d b = length (b .reals) - d
+Spaced stride run i = (i % stride ≡ 0) × (i < run)
 
 -- no place is in two pairs, and the pairs go by twos
-pub record Run (d stride : ℕ) (b : Buffers) : Type 0 where
+pub record Run (run d stride : ℕ) (b : Buffers) : Type 0 where
   pub equal : length (b .imags) ≡ length (b .reals)
   pub small : length (b .reals) ≤ 2 ^ 24
   pub some : 0 < stride
   pub narrow : stride ≤ 2 ^ 24
-  pub room : d ≤ length (b .reals)
-  pub apart : (i j : ℕ) → Spaced stride (lastOf d b) i → Spaced stride (lastOf d b) j → i ≡ j + d → ⊥
-  pub even : (i : ℕ) → i % (stride * 2) ≡ 0 → i < lastOf d b → i + stride < lastOf d b
+  pub room : (i : ℕ) → Spaced stride run i → i + d < length (b .reals)
+  pub apart : (i j : ℕ) → Spaced stride run i → Spaced stride run j → i ≡ j + d → ⊥
+  pub even : (i : ℕ) → i % (stride * 2) ≡ 0 → i < run → i + stride < run
 
 -- the rule was put to each of its pairs
-pub record Ran (rule : Pair → Pair) (d stride : ℕ) (b b′ : Buffers) : Type 0 where
+pub record Ran (rule : Pair → Pair) (run d stride : ℕ) (b b′ : Buffers) : Type 0 where
   pub same : SameSize b b′
-  pub pairs : Paired rule (Spaced stride (lastOf d b)) (λ i. i) (λ i. i + d) 0 (lastOf d b) (at b) (at b′)
+  pub pairs : Paired rule (Spaced stride run) (λ i. i) (λ i. i + d) 0 run (at b) (at b′)
 
 -- ---- two pairs at once
 

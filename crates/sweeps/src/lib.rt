@@ -13,6 +13,7 @@ use rules::Rule;
 use runs::dense;
 use runs::neighbours;
 use runs::short;
+use runs::strided;
 ghost use Prim.Native.Nat.{_≤_};
 ghost use Rattle.book.specs.Answers.{buffers, Does};
 ghost use Rattle.book.specs.Gates.{pairGate};
@@ -29,14 +30,8 @@ const LONG: usize = 32;
 // The last number of a gate that needs no F.
 const QUICK: u32 = 4;
 
-// The first number of a gate that takes an angle: two pairs of those at a turn are more than the compiler joins,
-// and below this length their runs go key by key.
-const ROTATION: u32 = 3;
-
-const BRIEF: usize = 8;
-
-// Run by run where neighbouring keys or places allow it, and else key by key. The fixed bits are cut in two: the ones that they
-// end in give the stride, and the lowest bit of the rest the length of a run.
+// Run by run, unless the gate needs F or every qubit is fixed. The fixed bits are cut in two: the ones that they end in give the stride,
+// and the lowest bit of the rest the length of a run.
 fn sweep(
     reals: &mut [f64],
     imags: &mut [f64],
@@ -68,14 +63,8 @@ fn sweep(
     let run: usize = 1 << r;
     if stride == 1 {
         if run < LONG {
-            if code < ROTATION {
-                short(reals, imags, n, wide, run, back0, back1, code, angle);
-                return;
-            }
-            if run < BRIEF {
-                by_keys(reals, imags, n, fixed, back0, back1, rule, angle, matrix);
-                return;
-            }
+            short(reals, imags, n, wide, run, back0, back1, code, angle);
+            return;
         }
         dense(reals, imags, n, wide, run, back0, back1, code, angle);
         return;
@@ -86,7 +75,18 @@ fn sweep(
             return;
         }
     }
-    by_keys(reals, imags, n, fixed, back0, back1, rule, angle, matrix);
+    strided(
+        reals,
+        imags,
+        n,
+        wide,
+        run,
+        stride,
+        back0,
+        back1,
+        code,
+        angle,
+    );
 }
 
 // A gate on pairs, from its rule, the numbers that the rule is fed, how many controls it takes, and the numbers that test 6 judges.

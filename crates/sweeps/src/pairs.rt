@@ -35,7 +35,7 @@ pub(crate) fn write_pair(reals: &mut [f64], imags: &mut [f64], s0: usize, s1: us
     imags[s1] = cd.im;
 }
 
-// Two pairs that lie stride apart. Both of one buffer's neighbours stand together, so that the compiler can join them.
+// Two pairs that lie stride apart. One buffer's stores stand together, so that the compiler can join those to neighbours.
 pub(crate) fn write_two(
     reals: &mut [f64],
     imags: &mut [f64],
@@ -56,10 +56,10 @@ pub(crate) fn write_two(
     let t1 = s1 + stride;
     reals[s0] = ab.re;
     reals[t0] = ef.re;
-    imags[s0] = ab.im;
-    imags[t0] = ef.im;
     reals[s1] = cd.re;
     reals[t1] = gh.re;
+    imags[s0] = ab.im;
+    imags[t0] = ef.im;
     imags[s1] = cd.im;
     imags[t1] = gh.im;
 }

@@ -1,5 +1,6 @@
 // The chosen pairs run by run, for the gates that need no F: each run is lent as one part of both buffers.
-// The numbers that stand as literals at the calls, the gate's among them, let the compiler make a loop for each; one proof serves them all.
+// The compiler makes a loop for each form and each gate, since it knows the literals at a call, and in an arm the number that was matched:
+// so the arms are one call, and one proof serves them all. The last arm is no gate's.
 use super::pairs::read_pair;
 use super::pairs::write_pair;
 use super::pairs::write_two;
@@ -12,13 +13,20 @@ ghost use Rattle.state.specs.Pairs.{Swept};
 ghost use Rattle.state.specs.Runs.{Run, Ran, Runs};
 
 // One pair at a turn, at each stride-th place.
-fn along(reals: &mut [f64], imags: &mut [f64], d: usize, stride: usize, rule: u32, angle: Angle)
-    requires { ⌜ Run d stride (buffers (now reals) (now imags)) ⌝ }
-    ensures { λ _. ⌜ Ran (quickOf rule angle) d stride (buffers (now (reals .entry)) (now (imags .entry))) (buffers (now (reals .exit)) (now (imags .exit))) ⌝ }
+fn along(
+    reals: &mut [f64],
+    imags: &mut [f64],
+    run: usize,
+    d: usize,
+    stride: usize,
+    rule: u32,
+    angle: Angle,
+)
+    requires { ⌜ Run run d stride (buffers (now reals) (now imags)) ⌝ }
+    ensures { λ _. ⌜ Ran (quickOf rule angle) run d stride (buffers (now (reals .entry)) (now (imags .entry))) (buffers (now (reals .exit)) (now (imags .exit))) ⌝ }
 {
-    let last = reals.len() - d;
     let mut i = 0;
-    while i < last {
+    while i < run {
         let p = read_pair(reals, imags, i, i + d);
         let v = put_quick(rule, angle, p);
         write_pair(reals, imags, i, i + d, v);
@@ -27,13 +35,20 @@ fn along(reals: &mut [f64], imags: &mut [f64], d: usize, stride: usize, rule: u3
 }
 
 // Two pairs at a turn: both are read before either is written.
-fn by_twos(reals: &mut [f64], imags: &mut [f64], d: usize, stride: usize, rule: u32, angle: Angle)
-    requires { ⌜ Run d stride (buffers (now reals) (now imags)) ⌝ }
-    ensures { λ _. ⌜ Ran (quickOf rule angle) d stride (buffers (now (reals .entry)) (now (imags .entry))) (buffers (now (reals .exit)) (now (imags .exit))) ⌝ }
+fn by_twos(
+    reals: &mut [f64],
+    imags: &mut [f64],
+    run: usize,
+    d: usize,
+    stride: usize,
+    rule: u32,
+    angle: Angle,
+)
+    requires { ⌜ Run run d stride (buffers (now reals) (now imags)) ⌝ }
+    ensures { λ _. ⌜ Ran (quickOf rule angle) run d stride (buffers (now (reals .entry)) (now (imags .entry))) (buffers (now (reals .exit)) (now (imags .exit))) ⌝ }
 {
-    let last = reals.len() - d;
     let mut i = 0;
-    while i < last {
+    while i < run {
         let next = i + stride;
         let p = read_pair(reals, imags, i, i + d);
         let q = read_pair(reals, imags, next, next + d);
@@ -44,23 +59,25 @@ fn by_twos(reals: &mut [f64], imags: &mut [f64], d: usize, stride: usize, rule: 
     }
 }
 
+// A run, whose keys are the stride-th below run.
 fn part(
     reals: &mut [f64],
     imags: &mut [f64],
+    run: usize,
     d: usize,
     stride: usize,
     two: bool,
     rule: u32,
     angle: Angle,
 )
-    requires { ⌜ Run d stride (buffers (now reals) (now imags)) ⌝ }
-    ensures { λ _. ⌜ Ran (quickOf rule angle) d stride (buffers (now (reals .entry)) (now (imags .entry))) (buffers (now (reals .exit)) (now (imags .exit))) ⌝ }
+    requires { ⌜ Run run d stride (buffers (now reals) (now imags)) ⌝ }
+    ensures { λ _. ⌜ Ran (quickOf rule angle) run d stride (buffers (now (reals .entry)) (now (imags .entry))) (buffers (now (reals .exit)) (now (imags .exit))) ⌝ }
 {
     if two {
-        by_twos(reals, imags, d, stride, rule, angle);
+        by_twos(reals, imags, run, d, stride, rule, angle);
         return;
     }
-    along(reals, imags, d, stride, rule, angle);
+    along(reals, imags, run, d, stride, rule, angle);
 }
 
 // u goes over the numbers that have all bits of wide, run by run; each stride-th of those is a key.
@@ -80,7 +97,7 @@ fn runs(
     requires { ⌜ Runs n wide run stride back0 back1 (buffers (now reals) (now imags)) ⌝ }
     ensures { λ _. ⌜ Swept (quickOf rule angle) n (wide + (stride - 1)) back0 back1 (buffers (now (reals .entry)) (now (imags .entry))) (buffers (now (reals .exit)) (now (imags .exit))) ⌝ }
 {
-    let size: usize = 1 << n;
+    let size = reals.len();
     let low = stride - 1;
     let d = back0 - back1;
     let mut u = wide;
@@ -90,6 +107,7 @@ fn runs(
         part(
             &mut reals[a..e],
             &mut imags[a..e],
+            run,
             d,
             stride,
             two,
@@ -98,6 +116,68 @@ fn runs(
         );
         u = (u + run) | wide;
     }
+}
+
+// All runs with one pair at a turn.
+fn ones(
+    reals: &mut [f64],
+    imags: &mut [f64],
+    n: u32,
+    wide: usize,
+    run: usize,
+    stride: usize,
+    back0: usize,
+    back1: usize,
+    rule: u32,
+    angle: Angle,
+)
+    requires { ⌜ Runs n wide run stride back0 back1 (buffers (now reals) (now imags)) ⌝ }
+    ensures { λ _. ⌜ Swept (quickOf rule angle) n (wide + (stride - 1)) back0 back1 (buffers (now (reals .entry)) (now (imags .entry))) (buffers (now (reals .exit)) (now (imags .exit))) ⌝ }
+{
+    runs(
+        reals,
+        imags,
+        n,
+        wide,
+        run,
+        stride,
+        back0,
+        back1,
+        false,
+        rule,
+        angle,
+    )
+}
+
+// All runs with two.
+fn twos(
+    reals: &mut [f64],
+    imags: &mut [f64],
+    n: u32,
+    wide: usize,
+    run: usize,
+    stride: usize,
+    back0: usize,
+    back1: usize,
+    rule: u32,
+    angle: Angle,
+)
+    requires { ⌜ Runs n wide run stride back0 back1 (buffers (now reals) (now imags)) ⌝ }
+    ensures { λ _. ⌜ Swept (quickOf rule angle) n (wide + (stride - 1)) back0 back1 (buffers (now (reals .entry)) (now (imags .entry))) (buffers (now (reals .exit)) (now (imags .exit))) ⌝ }
+{
+    runs(
+        reals,
+        imags,
+        n,
+        wide,
+        run,
+        stride,
+        back0,
+        back1,
+        true,
+        rule,
+        angle,
+    )
 }
 
 // Neighbouring keys, in long runs.
@@ -116,11 +196,12 @@ pub(crate) fn dense(
     ensures { λ _. ⌜ Swept (quickOf rule angle) n (wide + (1 - 1)) back0 back1 (buffers (now (reals .entry)) (now (imags .entry))) (buffers (now (reals .exit)) (now (imags .exit))) ⌝ }
 {
     match rule {
-        0 => runs(reals, imags, n, wide, run, 1, back0, back1, false, 0, angle),
-        1 => runs(reals, imags, n, wide, run, 1, back0, back1, false, 1, angle),
-        2 => runs(reals, imags, n, wide, run, 1, back0, back1, false, 2, angle),
-        3 => runs(reals, imags, n, wide, run, 1, back0, back1, false, 3, angle),
-        _ => runs(reals, imags, n, wide, run, 1, back0, back1, false, 4, angle),
+        0 => ones(reals, imags, n, wide, run, 1, back0, back1, rule, angle),
+        1 => ones(reals, imags, n, wide, run, 1, back0, back1, rule, angle),
+        2 => ones(reals, imags, n, wide, run, 1, back0, back1, rule, angle),
+        3 => ones(reals, imags, n, wide, run, 1, back0, back1, rule, angle),
+        4 => ones(reals, imags, n, wide, run, 1, back0, back1, rule, angle),
+        _ => ones(reals, imags, n, wide, run, 1, back0, back1, rule, angle),
     }
 }
 
@@ -140,11 +221,12 @@ pub(crate) fn short(
     ensures { λ _. ⌜ Swept (quickOf rule angle) n (wide + (1 - 1)) back0 back1 (buffers (now (reals .entry)) (now (imags .entry))) (buffers (now (reals .exit)) (now (imags .exit))) ⌝ }
 {
     match rule {
-        0 => runs(reals, imags, n, wide, run, 1, back0, back1, true, 0, angle),
-        1 => runs(reals, imags, n, wide, run, 1, back0, back1, true, 1, angle),
-        2 => runs(reals, imags, n, wide, run, 1, back0, back1, true, 2, angle),
-        3 => runs(reals, imags, n, wide, run, 1, back0, back1, true, 3, angle),
-        _ => runs(reals, imags, n, wide, run, 1, back0, back1, true, 4, angle),
+        0 => twos(reals, imags, n, wide, run, 1, back0, back1, rule, angle),
+        1 => twos(reals, imags, n, wide, run, 1, back0, back1, rule, angle),
+        2 => twos(reals, imags, n, wide, run, 1, back0, back1, rule, angle),
+        3 => twos(reals, imags, n, wide, run, 1, back0, back1, rule, angle),
+        4 => twos(reals, imags, n, wide, run, 1, back0, back1, rule, angle),
+        _ => twos(reals, imags, n, wide, run, 1, back0, back1, rule, angle),
     }
 }
 
@@ -162,10 +244,37 @@ pub(crate) fn neighbours(
     ensures { λ _. ⌜ Swept (quickOf rule angle) n (wide + (2 - 1)) 1 0 (buffers (now (reals .entry)) (now (imags .entry))) (buffers (now (reals .exit)) (now (imags .exit))) ⌝ }
 {
     match rule {
-        0 => runs(reals, imags, n, wide, run, 2, 1, 0, true, 0, angle),
-        1 => runs(reals, imags, n, wide, run, 2, 1, 0, true, 1, angle),
-        2 => runs(reals, imags, n, wide, run, 2, 1, 0, true, 2, angle),
-        3 => runs(reals, imags, n, wide, run, 2, 1, 0, true, 3, angle),
-        _ => runs(reals, imags, n, wide, run, 2, 1, 0, true, 4, angle),
+        0 => twos(reals, imags, n, wide, run, 2, 1, 0, rule, angle),
+        1 => twos(reals, imags, n, wide, run, 2, 1, 0, rule, angle),
+        2 => twos(reals, imags, n, wide, run, 2, 1, 0, rule, angle),
+        3 => twos(reals, imags, n, wide, run, 2, 1, 0, rule, angle),
+        4 => twos(reals, imags, n, wide, run, 2, 1, 0, rule, angle),
+        _ => twos(reals, imags, n, wide, run, 2, 1, 0, rule, angle),
+    }
+}
+
+// Each step-th key.
+pub(crate) fn strided(
+    reals: &mut [f64],
+    imags: &mut [f64],
+    n: u32,
+    wide: usize,
+    run: usize,
+    step: usize,
+    back0: usize,
+    back1: usize,
+    rule: u32,
+    angle: Angle,
+)
+    requires { ⌜ Runs n wide run step back0 back1 (buffers (now reals) (now imags)) ⌝ }
+    ensures { λ _. ⌜ Swept (quickOf rule angle) n (wide + (step - 1)) back0 back1 (buffers (now (reals .entry)) (now (imags .entry))) (buffers (now (reals .exit)) (now (imags .exit))) ⌝ }
+{
+    match rule {
+        0 => twos(reals, imags, n, wide, run, step, back0, back1, rule, angle),
+        1 => twos(reals, imags, n, wide, run, step, back0, back1, rule, angle),
+        2 => twos(reals, imags, n, wide, run, step, back0, back1, rule, angle),
+        3 => twos(reals, imags, n, wide, run, step, back0, back1, rule, angle),
+        4 => twos(reals, imags, n, wide, run, step, back0, back1, rule, angle),
+        _ => twos(reals, imags, n, wide, run, step, back0, back1, rule, angle),
     }
 }

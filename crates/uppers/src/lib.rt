@@ -3,17 +3,16 @@ use book::Amplitude;
 use book::Angle;
 use book::Answer;
 use book::Controls;
-ghost use Prim.Native.Nat.{_+_, _≤_, _^_};
+ghost use Prim.Native.Nat.{_%_};
 ghost use lib.ListN.{length};
 ghost use mathlib.Core.Path.{_≡_};
 ghost use Rattle.book.specs.Answers.{buffers, Does};
 ghost use Rattle.book.specs.Gates.{pairGate};
 ghost use Rattle.book.specs.Kernels.{kernel};
-ghost use Rattle.book.specs.State.{at, onPairs};
+ghost use Rattle.book.specs.State.{onPairs};
 ghost use Rattle.rules.specs.Rules.{upperRule};
 ghost use Rattle.state.specs.Judging.{Seated};
-ghost use Rattle.state.specs.Pairs.{Turned, SameSize};
-ghost use Rattle.uppers.specs.Uppers.{masked, turnedAt};
+ghost use Rattle.uppers.specs.Uppers.{masked, turnedAt, Half, HalfTurned};
 
 // The place i, whose amplitude is cd: turned where the controls choose it.
 fn turn_at(ones: usize, upper: u32, angle: Angle, i: usize, cd: Amplitude) -> Amplitude
@@ -25,8 +24,8 @@ fn turn_at(ones: usize, upper: u32, angle: Angle, i: usize, cd: Amplitude) -> Am
     cd
 }
 
-// The lent half, whose first place is from.
-fn turn_half(
+// The lent half, whose first place is from, one place at a turn.
+fn turn_along(
     reals: &mut [f64],
     imags: &mut [f64],
     from: usize,
@@ -34,8 +33,8 @@ fn turn_half(
     upper: u32,
     angle: Angle,
 )
-    requires { ⌜ (length (now imags) ≡ length (now reals)) × (from + length (now reals) ≤ 2 ^ 24) ⌝ }
-    ensures { λ _. ⌜ Turned (λ j. turnedAt (masked ones) upper angle (from + j)) 0 (length (now (reals .entry))) (at (buffers (now (reals .entry)) (now (imags .entry)))) (at (buffers (now (reals .exit)) (now (imags .exit)))) × SameSize (buffers (now (reals .entry)) (now (imags .entry))) (buffers (now (reals .exit)) (now (imags .exit))) ⌝ }
+    requires { ⌜ Half from (buffers (now reals) (now imags)) ⌝ }
+    ensures { λ _. ⌜ HalfTurned ones upper angle from (buffers (now (reals .entry)) (now (imags .entry))) (buffers (now (reals .exit)) (now (imags .exit))) ⌝ }
 {
     let mut j = 0;
     while j < reals.len() {
@@ -50,7 +49,64 @@ fn turn_half(
     }
 }
 
-// Block by block; the upper half of a block is from a to e. The numbers that stand as literals at a call let the compiler leave the tests out.
+// Two places at a turn: both are read before either is written, and one buffer's stores stand together, so that the compiler can join them.
+fn turn_by_twos(
+    reals: &mut [f64],
+    imags: &mut [f64],
+    from: usize,
+    ones: usize,
+    upper: u32,
+    angle: Angle,
+)
+    requires { ⌜ Half from (buffers (now reals) (now imags)) × (length (now reals) % 2 ≡ 0) ⌝ }
+    ensures { λ _. ⌜ HalfTurned ones upper angle from (buffers (now (reals .entry)) (now (imags .entry))) (buffers (now (reals .exit)) (now (imags .exit))) ⌝ }
+{
+    let mut j = 0;
+    while j < reals.len() {
+        let k = j + 1;
+        let ab = Amplitude {
+            re: reals[j],
+            im: imags[j],
+        };
+        let cd = Amplitude {
+            re: reals[k],
+            im: imags[k],
+        };
+        let first = turn_at(ones, upper, angle, from + j, ab);
+        let second = turn_at(ones, upper, angle, from + k, cd);
+        reals[j] = first.re;
+        reals[k] = second.re;
+        imags[j] = first.im;
+        imags[k] = second.im;
+        j += 2;
+    }
+}
+
+// From this length on a half is left to the compiler's own joining of turns.
+const LONG: usize = 8;
+
+fn turn_half(
+    reals: &mut [f64],
+    imags: &mut [f64],
+    from: usize,
+    ones: usize,
+    upper: u32,
+    angle: Angle,
+)
+    requires { ⌜ Half from (buffers (now reals) (now imags)) ⌝ }
+    ensures { λ _. ⌜ HalfTurned ones upper angle from (buffers (now (reals .entry)) (now (imags .entry))) (buffers (now (reals .exit)) (now (imags .exit))) ⌝ }
+{
+    let len = reals.len();
+    if len < LONG {
+        if len % 2 == 0 {
+            turn_by_twos(reals, imags, from, ones, upper, angle);
+            return;
+        }
+    }
+    turn_along(reals, imags, from, ones, upper, angle);
+}
+
+// Block by block; the upper half of a block is from a to e.
 fn turn_blocks(
     reals: &mut [f64],
     imags: &mut [f64],
@@ -74,6 +130,27 @@ fn turn_blocks(
     }
 }
 
+// The arms are one call: in an arm the compiler knows the number that was matched, and leaves the loop of a half out.
+fn by_target(
+    reals: &mut [f64],
+    imags: &mut [f64],
+    n: u32,
+    target: u32,
+    ones: usize,
+    upper: u32,
+    angle: Angle,
+)
+    requires { ⌜ Seated n target (masked ones) (buffers (now reals) (now imags)) ⌝ }
+    ensures { λ _. ⌜ buffers (now (reals .exit)) (now (imags .exit)) ≡ onPairs (upperRule upper angle) n target (masked ones) (buffers (now (reals .entry)) (now (imags .entry))) ⌝ }
+{
+    match target {
+        0 => turn_blocks(reals, imags, n, target, ones, upper, angle),
+        1 => turn_blocks(reals, imags, n, target, ones, upper, angle),
+        2 => turn_blocks(reals, imags, n, target, ones, upper, angle),
+        _ => turn_blocks(reals, imags, n, target, ones, upper, angle),
+    }
+}
+
 // A gate that leaves s0 as it is: judged, then turned block by block.
 pub fn on_uppers(
     reals: &mut [f64],
@@ -93,7 +170,7 @@ pub fn on_uppers(
         let ones = controls.ones as usize;
         if ones == 0 {
             if upper == 0 {
-                turn_blocks(reals, imags, n, target, 0, 0, angle);
+                by_target(reals, imags, n, target, ones, upper, angle);
                 return answer;
             }
         }

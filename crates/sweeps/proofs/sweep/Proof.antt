@@ -1,6 +1,6 @@
 -- `sweeps::sweep` meets its contract: the fixed bits are cut, and each form goes over the pairs of all keys. Assumes nothing.
 use Prim.Native.Nat.{_+_, _^_, _<_}
-use mathlib.Core.Path.{_≡_, sym, ap, _∙_}
+use mathlib.Core.Path.{_≡_, refl, sym, ap, _∙_}
 use native.Mathlib.Omega.{arith}
 use borrow.Author.Needs.{needs}
 use Rattle.rules.proofs.Quick.{quick-rule}
@@ -25,21 +25,27 @@ named c =
 returns-3 : tie.Need-returns-3
 returns-3 c =
     let ran = c .before .before .before .before in
-    let at = ran .before .before .before .before .before in
+    let at = ran .before .before .before .before in
     rw (sym (named (at .before))) (W.swept-as (start (at .before) .pre) (free (at .before)) (at .if3 .taken) (ran .short .ensures))
 
-returns-5 : tie.Need-returns-5
-returns-5 c =
+returns-4 : tie.Need-returns-4
+returns-4 c =
     let ran = c .before .before .before .before in
     let at = ran .before .before .before .before in
     rw (sym (named (at .before))) (W.swept-as (start (at .before) .pre) (free (at .before)) (at .if3 .taken) (ran .dense .ensures))
 
-returns-6 : tie.Need-returns-6
-returns-6 c =
+returns-5 : tie.Need-returns-5
+returns-5 c =
     let ran = c .before .before .before .before in
     let near = ran .before .before .before in
     let at = near .before .before .before in
-    rw (sym (named at)) (W.swept-near (start at .pre) (free at) (near .before .if7 .taken) (near .if8 .taken) (ran .neighbours .ensures))
+    rw (sym (named at)) (W.swept-near (start at .pre) (free at) (near .before .if5 .taken) (near .if6 .taken) (ran .neighbours .ensures))
+
+returns-6 : tie.Need-returns-6
+returns-6 c =
+    let ran = c .before .before .before .before in
+    let at = ran .before .before .before .before .before in
+    rw (sym (named at)) (W.swept-as (start at .pre) (free at) refl (ran .strided .ensures))
 
 pub sweep-spec : {M : Type 1} → statement M
 sweep-spec =
@@ -64,23 +70,19 @@ sweep-spec =
     (λ c. omega (arith, free c, W.few (start c .pre), size-is (start c .pre)))
     (λ c. omega (arith, W.tail-run (start c .pre) (free c)))
     (λ c. omega (arith, W.tail-run (start c .pre) (free c)))
-    (λ c κs. let at = c .before .before .before .before in W.runs-as (start (at .before) .pre) (free (at .before)) (at .if3 .taken))
-    (λ c. search needs)
-    (λ c. search needs)
-    returns-3
-    (λ c κs. search needs)
-    (λ c. search needs)
-    (λ c. search needs)
-    (λ c. search needs)
     (λ c κs. let at = c .before .before .before in W.runs-as (start (at .before) .pre) (free (at .before)) (at .if3 .taken))
     (λ c. search needs)
     (λ c. search needs)
+    returns-3
+    (λ c κs. let at = c .before .before .before in W.runs-as (start (at .before) .pre) (free (at .before)) (at .if3 .taken))
+    (λ c. search needs)
+    (λ c. search needs)
+    returns-4
+    (λ c κs. let at = c .before .before in W.runs-near (start (at .before .before .before) .pre) (free (at .before .before .before)) (at .before .if5 .taken) (at .if6 .taken))
+    (λ c. search needs)
+    (λ c. search needs)
     returns-5
-    (λ c κs. let at = c .before .before in W.runs-near (start (at .before .before .before) .pre) (free (at .before .before .before)) (at .before .if7 .taken) (at .if8 .taken))
+    (λ c κs. let at = c .before .before .before .before in W.runs-as (start at .pre) (free at) refl)
     (λ c. search needs)
     (λ c. search needs)
-    returns-6
-    (λ c κs. search needs)
-    (λ c. search needs)
-    (λ c. search needs)
-    (λ c. search needs))
+    returns-6)

@@ -4,7 +4,6 @@ use native.Mathlib.Omega.{arith}
 use Rattle.book.specs.Answers.{buffers}
 use Rattle.rules.specs.Rules.{quickOf}
 use Rattle.state.proofs.Bits.{or-ge}
-use Rattle.state.proofs.Shifts.{shl-is}
 use Rattle.state.proofs.Turns.{Turns, Numbers, numbers, turns-start, turns-ask, turns-step, turns-end, stride-pos}
 use Rattle.sweeps.proofs.runs.runs.Statement.{statement}
 use Rattle.sweeps.proofs.runs.runs.Tie as tie
@@ -20,7 +19,7 @@ abbrev start : tie.In-loop Inv-loop μ-loop → tie.Start Inv-loop μ-loop
 start c = c .before .before .before .before
 
 below : (c : tie.In-loop Inv-loop μ-loop) → c .before .loop .u < 2 ^ (start c .args .n)
-below c = omega (arith, c .loop-test .taken, shl-is (start c .args .n) (start c .pre .keyed .fits))
+below c = omega (arith, c .loop-test .taken, start c .pre .keyed .reals)
 
 turn : (c : tie.In-loop Inv-loop μ-loop)
     → Numbers (start c .args .n) (start c .args .run) (start c .args .stride) (start c .args .back0) (start c .args .back1) (c .before .loop .u)
@@ -40,7 +39,7 @@ loop-again c =
 returns : tie.Need-returns Inv-loop μ-loop
 returns c =
     let s = c .before .before .before .before in
-    turns-end (s .pre) (c .before .loop .inv) (omega (arith, c .loop-test .left, shl-is (s .args .n) (s .pre .keyed .fits)))
+    turns-end (s .pre) (c .before .loop .inv) (omega (arith, c .loop-test .left, s .pre .keyed .reals))
 
 pub runs-spec : {M : Type 1} → statement M
 runs-spec =
@@ -48,7 +47,6 @@ runs-spec =
     (tie.spec
     Inv-loop
     μ-loop
-    (λ c. omega (arith, c .before .before .pre .keyed .fits))
     (λ c. stride-pos (c .before .before .pre .cut))
     (λ c. omega (arith, c .before .before .pre .keyed .order))
     (λ c. turns-start (c .before .before .pre))

@@ -1,12 +1,12 @@
--- `uppers::turn_half` meets its contract, by the walk along a part. Assumes nothing.
+-- `uppers::turn_along` meets its contract, by the walk along a part. Assumes nothing.
 use Prim.Native.Nat.{_+_, _-_}
 use borrow.Author.Needs.{needs}
 use lib.ListN.{length}
 use Rattle.book.specs.Answers.{buffers}
 use Rattle.state.proofs.Halves.{Walked, walk-starts, walk-steps, walk-ends}
 use Rattle.uppers.specs.Uppers.{masked, turnedAt}
-use Rattle.uppers.proofs.turn_half.Statement.{statement}
-use Rattle.uppers.proofs.turn_half.Tie as tie
+use Rattle.uppers.proofs.turn_along.Statement.{statement}
+use Rattle.uppers.proofs.turn_along.Tie as tie
 
 abbrev Inv-loop : tie.InvT-loop
 Inv-loop reals₀ imags₀ from ones upper angle j₀ reals imags j =
@@ -23,8 +23,8 @@ loop-again c =
 returns : tie.Need-returns Inv-loop μ-loop
 returns c = walk-ends _ _ (c .before .before .before .before .pre .0) _ _ (c .before .loop .inv) (c .loop-test .left)
 
-pub turn-half-spec : {M : Type 1} → statement M
-turn-half-spec =
+pub turn-along-spec : {M : Type 1} → statement M
+turn-along-spec =
     tie.close
     (tie.spec
     Inv-loop
