@@ -1,14 +1,14 @@
 -- Laws of bits: one bit of a number, `and` with a bit more, and the next number that has all bits of a set. Assumes nothing.
 use Prim.Native.Nat.{ℕ, suc, _+_, _-_, _*_, _/_, _%_, _^_, _≤_, _<_, max}
 use mathlib.Core.Logic.{⊎-elim}
-use mathlib.Core.Path.{_≡_, sym, ap, _∙_}
-use native.Mathlib.Nat.{pow-suc, mod-lt, add-div-right, zero-lt-suc, mul-div-cancel, div-eq-of-lt, zero-div, zero-add}
+use mathlib.Core.Path.{_≡_, sym, ap, ap₂, _∙_}
+use native.Mathlib.Nat.{pow-suc, mod-lt, add-div-right, zero-lt-suc, mul-div-cancel, div-eq-of-lt, zero-div, zero-add, add-mul, one-mul, le-div-iff-mul-le, mul-le-mul-right}
 use native.Mathlib.Decide.{decLt}
 use native.Mathlib.Numerals.{add-one}
 use native.Mathlib.Omega.{arith}
 use lib.Arith.{bin-ind}
-use lib.Bits.{bitAnd, bitOr, and-self, and-step, or-step, and-comm, and-le-r, and-zero-r, or-add-and}
-use lib.Pow.{pow-pos, pow-add, pow-lt}
+use lib.Bits.{bitAnd, bitOr, and-self, and-step, or-step, and-comm, and-le-r, and-zero-r, or-add-and, or-block, or-zero-r}
+use lib.Pow.{pow-pos, pow-add, pow-lt, split}
 use Rattle.book.proofs.Bits as Book
 use Rattle.book.specs.State.{bit}
 pub use Rattle.book.proofs.Bits.{bit-lt, halves, and-add, bit-up, bit-le, bit-down, up-lt}
@@ -47,6 +47,19 @@ next-least i =
     let s′ : bitOr (n + 1) f ≡ bitOr (n / 2 + 1) (f / 2) * 2 + max ((n + 1) % 2) (f % 2) = s ∙ ap (λ (x : ℕ). bitOr x (f / 2) * 2 + max ((n + 1) % 2) (f % 2)) h in
     omega (arith, ih (f / 2) (j / 2) en ej (omega arith)))
     (Book.zero-or-one (n % 2) (mod-lt n (zero-lt-suc 1)))) i
+
+-- ---- the same in blocks of 2 ^ k numbers, where the set has no bit below 2 ^ k: the start of the next block that has all bits of the set
+module _ (k x y : ℕ) where
+  pub next-block : bitOr (x * 2 ^ k + 2 ^ k) (y * 2 ^ k) ≡ bitOr (x + 1) y * 2 ^ k
+  next-block =
+      let m : x * 2 ^ k + 2 ^ k ≡ (x + 1) * 2 ^ k + 0 = omega (arith, add-mul x 1 (2 ^ k), one-mul (2 ^ k)) in
+      let z : y * 2 ^ k ≡ y * 2 ^ k + 0 = omega arith in
+      ap₂ bitOr m z ∙ or-block k (x + 1) y 0 0 (pow-pos k) (pow-pos k) ∙ omega (arith, or-zero-r 0)
+
+  pub next-block-least : (j : ℕ) → bitAnd x y ≡ y → bitAnd (j / 2 ^ k) y ≡ y → x * 2 ^ k + 2 ^ k ≤ j → bitOr (x + 1) y * 2 ^ k ≤ j
+  next-block-least j e f l =
+      let g : x + 1 ≤ j / 2 ^ k = le-div-iff-mul-le (pow-pos k) .1 (omega (arith, add-mul x 1 (2 ^ k), one-mul (2 ^ k))) in
+      omega (arith, split j k, mul-le-mul-right (2 ^ k) (next-least x y (j / 2 ^ k) e f (let h : x < j / 2 ^ k = omega arith in h)))
 
 -- ---- a bit set and taken away
 

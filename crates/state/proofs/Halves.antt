@@ -29,6 +29,10 @@ module _ (f : ℕ → Amplitude → Amplitude) where
   pub turn-idle : (a b : ℕ) (s : State) → ((i : ℕ) → a ≤ i → i < b → f i (s i) ≡ s i) → Turned f a b s s
   turn-idle a b s idle = record { inside = λ i x y. sym (idle i x y); before = λ i x. refl; after = λ i x. refl }
 
+  -- a function that makes the same of each place
+  pub turn-same : (g : ℕ → Amplitude → Amplitude) {a b : ℕ} {s s′ : State} → ((i : ℕ) → i < b → (x : Amplitude) → f i x ≡ g i x) → Turned f a b s s′ → Turned g a b s s′
+  turn-same g {s = s} same p = record { inside = λ i x y. p .inside i x y ∙ same i y (s i); before = p .before; after = p .after }
+
   -- from a to b, then on to c
   pub turn-join : {a b c : ℕ} {s s′ s″ : State} → a ≤ b → b ≤ c → Turned f a b s s′ → Turned f b c s′ s″ → Turned f a c s s″
   turn-join {a} {b} {c} {s} {s′} {s″} ab bc p q =
@@ -76,6 +80,11 @@ module _ (f : ℕ → Amplitude → Amplitude) (b₀ : Buffers) (equal : length 
         turned = turn-join f (omega arith) (omega arith) (u .turned) (turn-one f j b x y l (omega (arith, u .same .reals, u .same .imags)) e);
       }
 
+  -- on to k, past places that f leaves as they are
+  pub walk-skips : {j : ℕ} {b : Buffers} (k : ℕ) → Walked f b₀ j b → j ≤ k → k ≤ length (b₀ .reals) → ((i : ℕ) → j ≤ i → i < k → (x : Amplitude) → f i x ≡ x) → Walked f b₀ k b
+  walk-skips {j} {b} k u l m idle =
+      record { same = u .same; within = m; turned = turn-join f (omega arith) l (u .turned) (turn-idle f j k (at b) (λ i x y. idle i x y (at b i))) }
+
   -- two places at once
   pub walk-two-steps : (j : ℕ) (b : Buffers) (x y z w : Float) → Walked f b₀ j b → j + 1 < length (b .reals) → amplitude x y ≡ f j (at b j) → amplitude z w ≡ f (j + 1) (at b (j + 1))
       → Walked f b₀ (j + 2) (buffers (set (set (b .reals) j x) (j + 1) z) (set (set (b .imags) j y) (j + 1) w))
@@ -105,20 +114,35 @@ pub record Blocks (g : ℕ → Amplitude → Amplitude) (n t : ℕ) (b₀ : Buff
   pub same : SameSize b₀ b
   pub block : ℕ
   pub here : base ≡ block * 2 ^ suc t
-  pub within : base ≤ 2 ^ n
   pub turned : Turned (onUpper g t) 0 base (at b₀) (at b)
 
 module _ (g : ℕ → Amplitude → Amplitude) (n t : ℕ) (qubit : t < n) (b₀ : Buffers) where
   pub blocks-start : Blocks g n t b₀ 0 b₀
   blocks-start =
-      record { same = record { reals = refl; imags = refl }; block = 0; here = omega arith; within = omega arith; turned = turn-none (onUpper g t) 0 (at b₀) }
+      record { same = record { reals = refl; imags = refl }; block = 0; here = omega arith; turned = turn-none (onUpper g t) 0 (at b₀) }
+
+  -- on to a later block, past places that g leaves as they are; that block may start behind the end
+  pub blocks-skip : {base : ℕ} {b : Buffers} (k block : ℕ) → Blocks g n t b₀ base b → k ≡ block * 2 ^ suc t → base ≤ k
+      → ((i : ℕ) → base ≤ i → i < k → (x : Amplitude) → g i x ≡ x) → Blocks g n t b₀ k b
+  unfolding onUpper upBy
+  blocks-skip {base} {b} k block u here l idle =
+      record {
+        same = u .same;
+        block = block;
+        here = here;
+        turned = turn-join (onUpper g t) (omega arith) l (u .turned) (turn-idle (onUpper g t) base k (at b) (λ i x y. go (bit t i) (idle i x y (at b i))));
+      }
+    where
+      go : {i : ℕ} {x : Amplitude} (k : ℕ) → g i x ≡ x → upBy k (g i) x ≡ x
+      go zero e = refl
+      go (suc k) e = e
 
   module _ {base : ℕ} {b : Buffers} (u : Blocks g n t b₀ base b) (l : base < 2 ^ n) where
     more : 2 ^ suc t ≡ 2 ^ t + 2 ^ t
     more = omega (arith, pow-suc 2 t)
 
     starts : Base n t base
-    starts = record { block = u .block; here = u .here; within = u .within }
+    starts = record { block = u .block; here = u .here; within = omega arith }
 
     pub blocks-room : base + 2 ^ t + 2 ^ t ≤ 2 ^ n
     blocks-room = room starts qubit l
@@ -157,7 +181,6 @@ module _ (g : ℕ → Amplitude → Amplitude) (n t : ℕ) (qubit : t < n) (b₀
           same = record { reals = back .reals ∙ u .same .reals; imags = back .imags ∙ u .same .imags };
           block = u .block + 1;
           here = omega (arith, u .here, more, add-mul (u .block) 1 (2 ^ suc t), one-mul (2 ^ suc t));
-          within = blocks-room;
           turned = turn-join (onUpper g t) (omega arith) (omega arith) (u .turned) (turn-join (onUpper g t) (omega arith) (omega arith) lower upper);
         }
 

@@ -3,10 +3,10 @@ use Prim.Native.Nat.{ℕ, suc, _+_, _-_, _*_, _/_, _%_, _^_, _≤_, _<_}
 use mathlib.Core.Logic.{_⊎_, inl, inr, ⊎-elim}
 use mathlib.Core.Path.{_≡_, refl, sym, ap, ap₂, _∙_, subst}
 use native.Mathlib.Decide.{decLt}
-use native.Mathlib.Nat.{add-mul, one-mul, pow-suc, le-div-iff-mul-le, mod-lt, lt-of-mul-lt-mul-right, mul-le-mul-right, div-add-mod', mul-mod-left, zero-mod}
+use native.Mathlib.Nat.{add-mul, one-mul, pow-suc, mod-lt, lt-of-mul-lt-mul-right, mul-le-mul-right, div-add-mod', mul-mod-left, zero-mod}
 use native.Mathlib.Omega.{arith}
 use borrow.Author.Needs.{zero≤}
-use lib.Bits.{bitAnd, bitOr, and-self, and-le-r, or-zero-r, and-mask, and-block, or-block}
+use lib.Bits.{bitAnd, bitOr, and-self, and-le-r, and-mask, and-block}
 use lib.ListN.{length}
 use lib.Pow as Pow
 use lib.Pow.{pow-pos, pow-mono, split, high}
@@ -15,7 +15,7 @@ use Rattle.book.specs.State.{at, pair}
 use Rattle.book.specs.declared.Pair.{Pair}
 use Rattle.state.specs.Pairs.{SameSize, Paired, Has, Swept}
 use Rattle.state.specs.Runs.{Spaced, Run, Ran, Cut, Runs}
-use Rattle.state.proofs.Bits.{or-ge, or-covers, next-least}
+use Rattle.state.proofs.Bits.{or-ge, or-covers, next-block, next-block-least}
 use Rattle.state.proofs.Cuts.{pow-split}
 use Rattle.state.proofs.Keys.{key-ge, apart}
 use Rattle.state.proofs.Lending.{lent, returned, lent-reals, lent-imags, lent-place, back-same, back-inside, back-before, back-after}
@@ -78,10 +78,7 @@ module _ {n wide run stride : ℕ} (c : Cut n wide run stride) where
 
   -- the next run's start, and that no key lies before it
   next-is : (x u : ℕ) → u ≡ x * 2 ^ (c .r) → bitOr (u + run) wide ≡ bitOr (x + 1) (c .y) * 2 ^ (c .r)
-  next-is x u h =
-      let m : u + run ≡ (x + 1) * 2 ^ (c .r) + 0 = omega (arith, c .run-is, add-mul x 1 (2 ^ (c .r)), one-mul (2 ^ (c .r))) in
-      let k : wide ≡ c .y * 2 ^ (c .r) + 0 = omega (arith, c .wide-is) in
-      ap₂ bitOr m k ∙ or-block (c .r) (x + 1) (c .y) 0 0 (pow-pos (c .r)) (pow-pos (c .r)) ∙ omega (arith, or-zero-r 0)
+  next-is x u h = let m : u + run ≡ x * 2 ^ (c .r) + 2 ^ (c .r) = omega (arith, c .run-is) in ap₂ bitOr m (c .wide-is) ∙ next-block (c .r) x (c .y)
 
   next-run : (x w : ℕ) → bitAnd x (c .y) ≡ c .y → Has (wide + (stride - 1)) w → x * 2 ^ (c .r) + 2 ^ (c .r) ≤ w → bitOr (x + 1) (c .y) * 2 ^ (c .r) ≤ w
   next-run x w e f l =
@@ -89,8 +86,7 @@ module _ {n wide run stride : ℕ} (c : Cut n wide run stride) where
       let v : ℕ = w % 2 ^ (c .r) in
       let sp : z * 2 ^ (c .r) + v ≡ w = split w (c .r) in
       let k : bitAnd z (c .y) ≡ c .y = cut-on z v (mod-lt w (pow-pos (c .r))) (subst (Has (wide + (stride - 1))) (sym sp) f) .0 in
-      let g : x + 1 ≤ z = le-div-iff-mul-le (pow-pos (c .r)) .1 (omega (arith, add-mul x 1 (2 ^ (c .r)), one-mul (2 ^ (c .r)))) in
-      omega (arith, mul-le-mul-right (2 ^ (c .r)) (next-least x (c .y) z e k (let h : x < z = omega arith in h)))
+      next-block-least (c .r) x (c .y) w e k l
 
   run-room : (x u : ℕ) → u ≡ x * 2 ^ (c .r) → u < 2 ^ n → u + run ≤ 2 ^ n
   run-room x u h l =

@@ -10,31 +10,14 @@ ghost use Rattle.book.specs.Answers.{buffers, Does};
 ghost use Rattle.book.specs.Gates.{pairGate};
 ghost use Rattle.book.specs.Kernels.{kernel};
 ghost use Rattle.book.specs.State.{onPairs};
-ghost use Rattle.rules.specs.Rules.{upperRule};
+ghost use Rattle.rules.specs.Rules.{upperOf, upperRule};
 ghost use Rattle.state.specs.Judging.{Seated};
-ghost use Rattle.uppers.specs.Uppers.{masked, turnedAt, Half, HalfTurned};
+ghost use Rattle.uppers.specs.Uppers.{masked, turnedAt, HalfTurned};
 
-// The place i, whose amplitude is cd: turned where the controls choose it.
-fn turn_at(ones: usize, upper: u32, angle: Angle, i: usize, cd: Amplitude) -> Amplitude
-    ensures { λ r. ⌜ r ≡ turnedAt (masked ones) upper angle i cd ⌝ }
-{
-    if i & ones == ones {
-        return rules::put_upper(upper, angle, cd);
-    }
-    cd
-}
-
-// The lent half, whose first place is from, one place at a turn.
-fn turn_along(
-    reals: &mut [f64],
-    imags: &mut [f64],
-    from: usize,
-    ones: usize,
-    upper: u32,
-    angle: Angle,
-)
-    requires { ⌜ Half from (buffers (now reals) (now imags)) ⌝ }
-    ensures { λ _. ⌜ HalfTurned ones upper angle from (buffers (now (reals .entry)) (now (imags .entry))) (buffers (now (reals .exit)) (now (imags .exit))) ⌝ }
+// Every place of the lent half, one at a turn.
+fn turn_along(reals: &mut [f64], imags: &mut [f64], upper: u32, angle: Angle)
+    requires { ⌜ length (now imags) ≡ length (now reals) ⌝ }
+    ensures { λ _. ⌜ HalfTurned (λ _. upperOf upper angle) (buffers (now (reals .entry)) (now (imags .entry))) (buffers (now (reals .exit)) (now (imags .exit))) ⌝ }
 {
     let mut j = 0;
     while j < reals.len() {
@@ -42,7 +25,7 @@ fn turn_along(
             re: reals[j],
             im: imags[j],
         };
-        let turned = turn_at(ones, upper, angle, from + j, cd);
+        let turned = rules::put_upper(upper, angle, cd);
         reals[j] = turned.re;
         imags[j] = turned.im;
         j += 1;
@@ -50,16 +33,9 @@ fn turn_along(
 }
 
 // Two places at a turn: both are read before either is written, and one buffer's stores stand together, so that the compiler can join them.
-fn turn_by_twos(
-    reals: &mut [f64],
-    imags: &mut [f64],
-    from: usize,
-    ones: usize,
-    upper: u32,
-    angle: Angle,
-)
-    requires { ⌜ Half from (buffers (now reals) (now imags)) × (length (now reals) % 2 ≡ 0) ⌝ }
-    ensures { λ _. ⌜ HalfTurned ones upper angle from (buffers (now (reals .entry)) (now (imags .entry))) (buffers (now (reals .exit)) (now (imags .exit))) ⌝ }
+fn turn_by_twos(reals: &mut [f64], imags: &mut [f64], upper: u32, angle: Angle)
+    requires { ⌜ (length (now imags) ≡ length (now reals)) × (length (now reals) % 2 ≡ 0) ⌝ }
+    ensures { λ _. ⌜ HalfTurned (λ _. upperOf upper angle) (buffers (now (reals .entry)) (now (imags .entry))) (buffers (now (reals .exit)) (now (imags .exit))) ⌝ }
 {
     let mut j = 0;
     while j < reals.len() {
@@ -72,8 +48,8 @@ fn turn_by_twos(
             re: reals[k],
             im: imags[k],
         };
-        let first = turn_at(ones, upper, angle, from + j, ab);
-        let second = turn_at(ones, upper, angle, from + k, cd);
+        let first = rules::put_upper(upper, angle, ab);
+        let second = rules::put_upper(upper, angle, cd);
         reals[j] = first.re;
         reals[k] = second.re;
         imags[j] = first.im;
@@ -82,31 +58,46 @@ fn turn_by_twos(
     }
 }
 
+// The places that have all bits of low, rising.
+fn turn_chosen(reals: &mut [f64], imags: &mut [f64], low: usize, upper: u32, angle: Angle)
+    requires { ⌜ length (now imags) ≡ length (now reals) ⌝ }
+    ensures { λ _. ⌜ HalfTurned (turnedAt (masked low) upper angle) (buffers (now (reals .entry)) (now (imags .entry))) (buffers (now (reals .exit)) (now (imags .exit))) ⌝ }
+{
+    let mut j = low;
+    while j < reals.len() {
+        let cd = Amplitude {
+            re: reals[j],
+            im: imags[j],
+        };
+        let turned = rules::put_upper(upper, angle, cd);
+        reals[j] = turned.re;
+        imags[j] = turned.im;
+        j = (j + 1) | low;
+    }
+}
+
 // From this length on a half is left to the compiler's own joining of turns.
 const LONG: usize = 8;
 
-fn turn_half(
-    reals: &mut [f64],
-    imags: &mut [f64],
-    from: usize,
-    ones: usize,
-    upper: u32,
-    angle: Angle,
-)
-    requires { ⌜ Half from (buffers (now reals) (now imags)) ⌝ }
-    ensures { λ _. ⌜ HalfTurned ones upper angle from (buffers (now (reals .entry)) (now (imags .entry))) (buffers (now (reals .exit)) (now (imags .exit))) ⌝ }
+fn turn_half(reals: &mut [f64], imags: &mut [f64], low: usize, upper: u32, angle: Angle)
+    requires { ⌜ length (now imags) ≡ length (now reals) ⌝ }
+    ensures { λ _. ⌜ HalfTurned (turnedAt (masked low) upper angle) (buffers (now (reals .entry)) (now (imags .entry))) (buffers (now (reals .exit)) (now (imags .exit))) ⌝ }
 {
+    if low != 0 {
+        turn_chosen(reals, imags, low, upper, angle);
+        return;
+    }
     let len = reals.len();
     if len < LONG {
         if len % 2 == 0 {
-            turn_by_twos(reals, imags, from, ones, upper, angle);
+            turn_by_twos(reals, imags, upper, angle);
             return;
         }
     }
-    turn_along(reals, imags, from, ones, upper, angle);
+    turn_along(reals, imags, upper, angle);
 }
 
-// Block by block; the upper half of a block is from a to e.
+// Block by block, those whose base has the controls above the target; the upper half of a block is from a to e.
 fn turn_blocks(
     reals: &mut [f64],
     imags: &mut [f64],
@@ -121,12 +112,14 @@ fn turn_blocks(
 {
     let size: usize = 1 << n;
     let bit: usize = 1 << target;
-    let mut base = 0;
+    let low = ones % bit;
+    let high = ones - low;
+    let mut base = high;
     while base < size {
         let a = base + bit;
         let e = a + bit;
-        turn_half(&mut reals[a..e], &mut imags[a..e], a, ones, upper, angle);
-        base = e;
+        turn_half(&mut reals[a..e], &mut imags[a..e], low, upper, angle);
+        base = e | high;
     }
 }
 
