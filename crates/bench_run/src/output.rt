@@ -2,7 +2,7 @@
 use libc::STDOUT_FILENO;
 
 // Where the output in the buffer ends, and whether standard output still takes what is written.
-pub struct Output {
+pub(crate) struct Output {
     pub at: usize,
     pub open: bool,
 }
@@ -29,7 +29,7 @@ fn append(out: &mut [u8], at: usize, text: &[u8]) -> usize {
     next
 }
 
-pub fn flush(out: &[u8], output: Output) -> Output {
+pub(crate) fn flush(out: &[u8], output: Output) -> Output {
     let at = output.at;
     if out.len() < at {
         return Output { at: 0, open: false };
@@ -41,7 +41,7 @@ pub fn flush(out: &[u8], output: Output) -> Output {
     Output { at: 0, open: false }
 }
 
-pub fn print(out: &mut [u8], output: Output, line: &[u8]) -> Output {
+pub(crate) fn print(out: &mut [u8], output: Output, line: &[u8]) -> Output {
     let at = append(out, output.at, line);
     let behind = Output {
         at,

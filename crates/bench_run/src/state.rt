@@ -33,7 +33,7 @@ fn print_amplitudes(reals: &[f64], imags: &[f64], out: &mut [u8], start: Output)
     output
 }
 
-pub fn print_state(
+pub(crate) fn print_state(
     cut: bool,
     count: u16,
     reals: &[f64],

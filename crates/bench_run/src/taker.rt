@@ -8,7 +8,7 @@ use sessions::Session;
 
 // What is known between two bytes: the session, the next delivery's index, how many bytes of a frame are there, how many of an over-long
 // one are still to be read past, whether the input was cut, whether more is to be read, and where the output ends.
-pub struct Taker {
+pub(crate) struct Taker {
     pub session: Session,
     pub index: u64,
     pub have: usize,
@@ -136,7 +136,7 @@ fn take_byte(
     take_frame(taker, have + 1, frame, reals, imags, out)
 }
 
-pub fn take_chunk(
+pub(crate) fn take_chunk(
     chunk: &[u8],
     start: Taker,
     frame: &mut [u8],
@@ -155,7 +155,7 @@ pub fn take_chunk(
 }
 
 // Whether the end of the input cuts a frame short.
-pub fn cut_short(taker: Taker, frame: &[u8]) -> bool {
+pub(crate) fn cut_short(taker: Taker, frame: &[u8]) -> bool {
     if taker.cut {
         return true;
     }

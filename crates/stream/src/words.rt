@@ -3,7 +3,7 @@ ghost use Prim.Native.Nat.{_+_, _≤_};
 ghost use lib.ListN.{length};
 ghost use Rattle.stream.specs.Lines.{decimal, bits, Added};
 
-pub fn add(out: &mut [u8], at: usize, words: &[u8]) -> usize
+pub(crate) fn add(out: &mut [u8], at: usize, words: &[u8]) -> usize
     requires { ⌜ at + length (now words) ≤ length (now out) ⌝ }
     ensures { λ r. ⌜ Added (now (words .entry)) (length (now (words .entry))) (now (out .entry)) at r (now (out .exit)) ⌝ }
 {
@@ -16,7 +16,7 @@ pub fn add(out: &mut [u8], at: usize, words: &[u8]) -> usize
     at + words.len()
 }
 
-pub fn add_number(out: &mut [u8], at: usize, n: u64) -> usize
+pub(crate) fn add_number(out: &mut [u8], at: usize, n: u64) -> usize
     requires { ⌜ at + 20 ≤ length (now out) ⌝ }
     ensures { λ r. ⌜ Added (decimal n) 20 (now (out .entry)) at r (now (out .exit)) ⌝ }
 {
@@ -25,7 +25,7 @@ pub fn add_number(out: &mut [u8], at: usize, n: u64) -> usize
     add(out, at, &digits[..k])
 }
 
-pub fn add_bits(out: &mut [u8], at: usize, x: f64) -> usize
+pub(crate) fn add_bits(out: &mut [u8], at: usize, x: f64) -> usize
     requires { ⌜ at + 16 ≤ length (now out) ⌝ }
     ensures { λ r. ⌜ Added (bits x) 16 (now (out .entry)) at r (now (out .exit)) ⌝ }
 {

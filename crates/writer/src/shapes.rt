@@ -15,7 +15,7 @@ use book::Gate;
 use book::Noise;
 
 // What stands behind field 04.
-pub enum Shape {
+pub(crate) enum Shape {
     Mask(Controls),
     Angled(Controls, Angle),
     Eight(Controls, Angles),
@@ -25,7 +25,7 @@ pub enum Shape {
 }
 
 // A gate's code, its target, and what stands behind field 04.
-pub struct Parts {
+pub(crate) struct Parts {
     pub code: u8,
     pub target: u8,
     pub shape: Shape,
@@ -41,7 +41,7 @@ fn coded(code: u8, target: u8, shape: Shape) -> Parts
     }
 }
 
-pub fn parts_of(gate: Gate) -> Parts
+pub(crate) fn parts_of(gate: Gate) -> Parts
     ensures { λ r. ⌜ r ≡ partsOf gate ⌝ }
 {
     match gate {
@@ -61,7 +61,7 @@ pub fn parts_of(gate: Gate) -> Parts
 }
 
 // How many bytes a record of this shape has.
-pub fn size_of(shape: Shape) -> usize
+pub(crate) fn size_of(shape: Shape) -> usize
     ensures { λ r. ⌜ r ≡ 20 + length (bytesOf shape) ⌝ }
 {
     match shape {
@@ -83,7 +83,7 @@ fn store_mask(out: &mut [u8], controls: Controls)
 }
 
 // The fields behind 04.
-pub fn store_shape(out: &mut [u8], shape: Shape)
+pub(crate) fn store_shape(out: &mut [u8], shape: Shape)
     requires { ⌜ 20 + length (bytesOf shape) ≤ length (now out) ⌝ }
     ensures { λ _. ⌜ now (out .exit) ≡ store (now (out .entry)) 20 (bytesOf shape) ⌝ }
 {

@@ -30,7 +30,7 @@ fn store_start(out: &mut [u8], at: usize, tag: u8, len: usize)
 }
 
 // A field of one number.
-pub fn store_number_field(out: &mut [u8], at: usize, tag: u8, width: usize, n: u64)
+pub(crate) fn store_number_field(out: &mut [u8], at: usize, tag: u8, width: usize, n: u64)
     requires { ⌜ (width ≤ 8) × (n < 256 ^ width) × (at + (3 + width) ≤ length (now out)) ⌝ }
     ensures { λ _. ⌜ now (out .exit) ≡ store (now (out .entry)) at (field tag (bytes width n)) ⌝ }
 {
@@ -52,7 +52,7 @@ fn store_floats(out: &mut [u8], at: usize, numbers: &[f64])
 }
 
 // A field of floats, at most the eight of U.
-pub fn store_floats_field(out: &mut [u8], at: usize, tag: u8, numbers: &[f64])
+pub(crate) fn store_floats_field(out: &mut [u8], at: usize, tag: u8, numbers: &[f64])
     requires { ⌜ (length (now numbers) ≤ 8) × (at + (3 + 8 * length (now numbers)) ≤ length (now out)) ⌝ }
     ensures { λ _. ⌜ now (out .exit) ≡ store (now (out .entry)) at (field tag (floats (now (numbers .entry)))) ⌝ }
 {
