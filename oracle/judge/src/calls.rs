@@ -78,9 +78,6 @@ impl fmt::Display for Call {
         if !self.controls.is_empty() {
             write!(f, " controls={:?}", self.controls)?;
         }
-        for number in self.gate.numbers() {
-            write!(f, " {:016x}", number.to_bits())?;
-        }
         Ok(())
     }
 }

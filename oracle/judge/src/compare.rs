@@ -64,7 +64,8 @@ impl Tally {
         let agree = same(&re, &theirs.reals) && same(&im, &theirs.imags);
         let again = same(&re2, &theirs.reals) && same(&im2, &theirs.imags);
         if !agree || !again || answer != expected(call) || delivered != ours::as_reply(answer) {
-            self.different(name, &format!("{call} answer {answer:?} delivered {delivered:?} reals {reals:?} imags {imags:?}"));
+            let numbers = call.gate.numbers();
+            self.different(name, &format!("{call} {numbers:?} answer {answer:?} delivered {delivered:?} reals {reals:?} imags {imags:?}"));
         }
     }
 
