@@ -138,8 +138,13 @@ fn gate_matrix_case(
     imags: &[f64],
 ) -> Verdict {
     let matrix = entries(ar, ai);
-    let answer =
-        unitaries::from_single_qubit_gate(br, bi, head.n as u32, head.given as u32, matrix);
+    let answer = unitaries::from_single_qubit_gate(
+        br,
+        bi,
+        head.n as u32,
+        head.given as u32,
+        matrix,
+    );
     if taken(answer) {
         return same_both(br, bi, reals, imags);
     }
