@@ -1,11 +1,12 @@
 // What a gate does to a state of n qubits: the kernel of each code, one line each.
 use book::Answer;
 use book::Gate;
-ghost use Rattle.book.specs.Answers.{buffers, Does};
+ghost use Rattle.book.specs.Answers.{Does};
+ghost use Rattle.book.specs.Lent.{before, after};
 ghost use Rattle.book.specs.Sessions as Book;
 
 pub fn act(n: u32, gate: Gate, reals: &mut [f64], imags: &mut [f64]) -> Answer
-    ensures { λ r. ⌜ Does (Book.act n gate (buffers (now (reals .entry)) (now (imags .entry)))) r (buffers (now (reals .exit)) (now (imags .exit))) ⌝ }
+    ensures { λ r. ⌜ Does (Book.act n gate (before reals imags)) r (after reals imags) ⌝ }
 {
     match gate {
         Gate::H(t, c) => gates::h_apply(reals, imags, n, t as u32, c),

@@ -1,5 +1,6 @@
 -- Document 01 as definitions, in its order.
 pub mod Answers
+pub mod Lent
 pub mod State
 pub mod Gates
 pub mod Kernels

@@ -5,7 +5,7 @@ use crate::answers::tell_reply;
 use sessions::Session;
 use sessions::Started;
 ghost use mathlib.Core.Path.{_≡_};
-ghost use Rattle.book.specs.Answers.{buffers};
+ghost use Rattle.book.specs.Lent.{before, after};
 ghost use Rattle.book.specs.Sessions as Book;
 ghost use Rattle.c_api.specs.Tells.{startOf, TellsDelivery};
 
@@ -30,7 +30,7 @@ pub extern "C" fn gate_bench_deliver(
     reals: &mut [f64],
     imags: &mut [f64],
 ) -> u32
-    ensures { λ r. ⌜ TellsDelivery (Book.deliver (Book.session n number (now (count .entry))) (buffers (now (reals .entry)) (now (imags .entry))) (now (bytes .entry))) r (now (count .exit)) (buffers (now (reals .exit)) (now (imags .exit))) ⌝ }
+    ensures { λ r. ⌜ TellsDelivery (Book.deliver (Book.session n number (now (count .entry))) (before reals imags) (now (bytes .entry))) r (now (count .exit)) (after reals imags) ⌝ }
 {
     let session = Session {
         n,

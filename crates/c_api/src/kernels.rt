@@ -5,9 +5,9 @@ use book::Angles;
 use book::Controls;
 use book::Forced;
 use book::Noise;
-ghost use Rattle.book.specs.Answers.{buffers};
 ghost use Rattle.book.specs.Gates.{xGate, yGate, zGate, hGate, pGate, rxGate, ryGate, rzGate, uGate};
 ghost use Rattle.book.specs.Kernels.{kernel, swap, bitFlip};
+ghost use Rattle.book.specs.Lent.{before, after};
 ghost use Rattle.book.specs.Measuring.{measure};
 ghost use Rattle.c_api.specs.Tells.{Tells};
 
@@ -20,7 +20,7 @@ pub extern "C" fn gate_bench_x_apply(
     target: u32,
     ones: u32,
 ) -> u32
-    ensures { λ r. ⌜ Tells (kernel xGate n target (record { ones = ones }) (buffers (now (reals .entry)) (now (imags .entry)))) r (buffers (now (reals .exit)) (now (imags .exit))) ⌝ }
+    ensures { λ r. ⌜ Tells (kernel xGate n target (record { ones = ones }) (before reals imags)) r (after reals imags) ⌝ }
 {
     tell(gates::x_apply(reals, imags, n, target, Controls { ones }))
 }
@@ -34,7 +34,7 @@ pub extern "C" fn gate_bench_y_apply(
     target: u32,
     ones: u32,
 ) -> u32
-    ensures { λ r. ⌜ Tells (kernel yGate n target (record { ones = ones }) (buffers (now (reals .entry)) (now (imags .entry)))) r (buffers (now (reals .exit)) (now (imags .exit))) ⌝ }
+    ensures { λ r. ⌜ Tells (kernel yGate n target (record { ones = ones }) (before reals imags)) r (after reals imags) ⌝ }
 {
     tell(gates::y_apply(reals, imags, n, target, Controls { ones }))
 }
@@ -48,7 +48,7 @@ pub extern "C" fn gate_bench_z_apply(
     target: u32,
     ones: u32,
 ) -> u32
-    ensures { λ r. ⌜ Tells (kernel zGate n target (record { ones = ones }) (buffers (now (reals .entry)) (now (imags .entry)))) r (buffers (now (reals .exit)) (now (imags .exit))) ⌝ }
+    ensures { λ r. ⌜ Tells (kernel zGate n target (record { ones = ones }) (before reals imags)) r (after reals imags) ⌝ }
 {
     tell(gates::z_apply(reals, imags, n, target, Controls { ones }))
 }
@@ -62,7 +62,7 @@ pub extern "C" fn gate_bench_h_apply(
     target: u32,
     ones: u32,
 ) -> u32
-    ensures { λ r. ⌜ Tells (kernel hGate n target (record { ones = ones }) (buffers (now (reals .entry)) (now (imags .entry)))) r (buffers (now (reals .exit)) (now (imags .exit))) ⌝ }
+    ensures { λ r. ⌜ Tells (kernel hGate n target (record { ones = ones }) (before reals imags)) r (after reals imags) ⌝ }
 {
     tell(gates::h_apply(reals, imags, n, target, Controls { ones }))
 }
@@ -78,7 +78,7 @@ pub extern "C" fn gate_bench_p_apply(
     cosine: f64,
     sine: f64,
 ) -> u32
-    ensures { λ r. ⌜ Tells (kernel (pGate (record { cosine = cosine; sine = sine })) n target (record { ones = ones }) (buffers (now (reals .entry)) (now (imags .entry)))) r (buffers (now (reals .exit)) (now (imags .exit))) ⌝ }
+    ensures { λ r. ⌜ Tells (kernel (pGate (record { cosine = cosine; sine = sine })) n target (record { ones = ones }) (before reals imags)) r (after reals imags) ⌝ }
 {
     tell(gates::p_apply(
         reals,
@@ -101,7 +101,7 @@ pub extern "C" fn gate_bench_rx_apply(
     cosine: f64,
     sine: f64,
 ) -> u32
-    ensures { λ r. ⌜ Tells (kernel (rxGate (record { cosine = cosine; sine = sine })) n target (record { ones = ones }) (buffers (now (reals .entry)) (now (imags .entry)))) r (buffers (now (reals .exit)) (now (imags .exit))) ⌝ }
+    ensures { λ r. ⌜ Tells (kernel (rxGate (record { cosine = cosine; sine = sine })) n target (record { ones = ones }) (before reals imags)) r (after reals imags) ⌝ }
 {
     tell(gates::rx_apply(
         reals,
@@ -124,7 +124,7 @@ pub extern "C" fn gate_bench_ry_apply(
     cosine: f64,
     sine: f64,
 ) -> u32
-    ensures { λ r. ⌜ Tells (kernel (ryGate (record { cosine = cosine; sine = sine })) n target (record { ones = ones }) (buffers (now (reals .entry)) (now (imags .entry)))) r (buffers (now (reals .exit)) (now (imags .exit))) ⌝ }
+    ensures { λ r. ⌜ Tells (kernel (ryGate (record { cosine = cosine; sine = sine })) n target (record { ones = ones }) (before reals imags)) r (after reals imags) ⌝ }
 {
     tell(gates::ry_apply(
         reals,
@@ -147,7 +147,7 @@ pub extern "C" fn gate_bench_rz_apply(
     cosine: f64,
     sine: f64,
 ) -> u32
-    ensures { λ r. ⌜ Tells (kernel (rzGate (record { cosine = cosine; sine = sine })) n target (record { ones = ones }) (buffers (now (reals .entry)) (now (imags .entry)))) r (buffers (now (reals .exit)) (now (imags .exit))) ⌝ }
+    ensures { λ r. ⌜ Tells (kernel (rzGate (record { cosine = cosine; sine = sine })) n target (record { ones = ones }) (before reals imags)) r (after reals imags) ⌝ }
 {
     tell(gates::rz_apply(
         reals,
@@ -176,7 +176,7 @@ pub extern "C" fn gate_bench_u_apply(
     cp: f64,
     sp: f64,
 ) -> u32
-    ensures { λ r. ⌜ Tells (kernel (uGate (record { ct = ct; st = st; cl = cl; sl = sl; cpl = cpl; spl = spl; cp = cp; sp = sp })) n target (record { ones = ones }) (buffers (now (reals .entry)) (now (imags .entry)))) r (buffers (now (reals .exit)) (now (imags .exit))) ⌝ }
+    ensures { λ r. ⌜ Tells (kernel (uGate (record { ct = ct; st = st; cl = cl; sl = sl; cpl = cpl; spl = spl; cp = cp; sp = sp })) n target (record { ones = ones }) (before reals imags)) r (after reals imags) ⌝ }
 {
     tell(gates::u_apply(
         reals,
@@ -206,7 +206,7 @@ pub extern "C" fn gate_bench_swap_apply(
     t0: u32,
     t1: u32,
 ) -> u32
-    ensures { λ r. ⌜ Tells (swap n t0 t1 (buffers (now (reals .entry)) (now (imags .entry)))) r (buffers (now (reals .exit)) (now (imags .exit))) ⌝ }
+    ensures { λ r. ⌜ Tells (swap n t0 t1 (before reals imags)) r (after reals imags) ⌝ }
 {
     tell(gates::swap_apply(reals, imags, n, t0, t1))
 }
@@ -221,7 +221,7 @@ pub extern "C" fn gate_bench_bit_flip_noise_apply(
     prob: f64,
     draw: f64,
 ) -> u32
-    ensures { λ r. ⌜ Tells (bitFlip n target (record { prob = prob; draw = draw }) (buffers (now (reals .entry)) (now (imags .entry)))) r (buffers (now (reals .exit)) (now (imags .exit))) ⌝ }
+    ensures { λ r. ⌜ Tells (bitFlip n target (record { prob = prob; draw = draw }) (before reals imags)) r (after reals imags) ⌝ }
 {
     tell(gates::bit_flip_noise_apply(reals, imags, n, target, Noise { prob, draw }))
 }
@@ -236,7 +236,7 @@ pub extern "C" fn gate_bench_measure_qubit(
     outcome: u8,
     reset: u8,
 ) -> u32
-    ensures { λ r. ⌜ Tells (measure n target (record { outcome = outcome; reset = reset }) (buffers (now (reals .entry)) (now (imags .entry)))) r (buffers (now (reals .exit)) (now (imags .exit))) ⌝ }
+    ensures { λ r. ⌜ Tells (measure n target (record { outcome = outcome; reset = reset }) (before reals imags)) r (after reals imags) ⌝ }
 {
     tell(measurement::measure_qubit(reals, imags, n, target, Forced { outcome, reset }))
 }

@@ -2,7 +2,7 @@
 use crate::answers::tell;
 use book::Amplitude;
 use book::Matrix;
-ghost use Rattle.book.specs.Answers.{buffers};
+ghost use Rattle.book.specs.Lent.{before, after};
 ghost use Rattle.book.specs.Matrices.{gateMatrix, conjugateTranspose, product, productState};
 ghost use Rattle.c_api.specs.Tells.{Tells, fourEntries};
 
@@ -22,7 +22,7 @@ pub extern "C" fn gate_bench_from_single_qubit_gate(
     re11: f64,
     im11: f64,
 ) -> u32
-    ensures { λ r. ⌜ Tells (gateMatrix (fourEntries re00 im00 re01 im01 re10 im10 re11 im11) n target (buffers (now (reals .entry)) (now (imags .entry)))) r (buffers (now (reals .exit)) (now (imags .exit))) ⌝ }
+    ensures { λ r. ⌜ Tells (gateMatrix (fourEntries re00 im00 re01 im01 re10 im10 re11 im11) n target (before reals imags)) r (after reals imags) ⌝ }
 {
     tell(unitaries::from_single_qubit_gate(
         reals,
@@ -43,7 +43,7 @@ pub extern "C" fn gate_bench_from_single_qubit_gate(
 // Conjugate transpose, in place.
 #[no_mangle]
 pub extern "C" fn gate_bench_conj_t(reals: &mut [f64], imags: &mut [f64], n: u32) -> u32
-    ensures { λ r. ⌜ Tells (conjugateTranspose n (buffers (now (reals .entry)) (now (imags .entry)))) r (buffers (now (reals .exit)) (now (imags .exit))) ⌝ }
+    ensures { λ r. ⌜ Tells (conjugateTranspose n (before reals imags)) r (after reals imags) ⌝ }
 {
     tell(unitaries::conj_t(reals, imags, n))
 }
@@ -59,7 +59,7 @@ pub extern "C" fn gate_bench_multiply(
     imags: &mut [f64],
     n: u32,
 ) -> u32
-    ensures { λ r. ⌜ Tells (product n (buffers (now (ar .entry)) (now (ai .entry))) (buffers (now (br .entry)) (now (bi .entry))) (buffers (now (reals .entry)) (now (imags .entry)))) r (buffers (now (reals .exit)) (now (imags .exit))) ⌝ }
+    ensures { λ r. ⌜ Tells (product n (before ar ai) (before br bi) (before reals imags)) r (after reals imags) ⌝ }
 {
     tell(unitaries::multiply(ar, ai, br, bi, reals, imags, n))
 }
@@ -75,7 +75,7 @@ pub extern "C" fn gate_bench_apply_unitary(
     imags: &mut [f64],
     n: u32,
 ) -> u32
-    ensures { λ r. ⌜ Tells (productState n (buffers (now (ar .entry)) (now (ai .entry))) (buffers (now (sr .entry)) (now (si .entry))) (buffers (now (reals .entry)) (now (imags .entry)))) r (buffers (now (reals .exit)) (now (imags .exit))) ⌝ }
+    ensures { λ r. ⌜ Tells (productState n (before ar ai) (before sr si) (before reals imags)) r (after reals imags) ⌝ }
 {
     tell(unitaries::apply_unitary(ar, ai, sr, si, reals, imags, n))
 }

@@ -10,9 +10,10 @@ use rules::Rule;
 use sweeps::on_pairs;
 use sweeps::swap_bits;
 use uppers::on_uppers;
-ghost use Rattle.book.specs.Answers.{buffers, Does};
+ghost use Rattle.book.specs.Answers.{Does};
 ghost use Rattle.book.specs.Gates.{xGate, yGate, zGate, hGate, pGate, rxGate, ryGate, rzGate, uGate};
 ghost use Rattle.book.specs.Kernels.{kernel, swap, bitFlip};
+ghost use Rattle.book.specs.Lent.{before, after};
 
 // A mask has 32 bits.
 const ANY: u32 = 32;
@@ -43,7 +44,7 @@ pub fn x_apply(
     target: u32,
     controls: Controls,
 ) -> Answer
-    ensures { λ r. ⌜ Does (kernel xGate n target controls (buffers (now (reals .entry)) (now (imags .entry)))) r (buffers (now (reals .exit)) (now (imags .exit))) ⌝ }
+    ensures { λ r. ⌜ Does (kernel xGate n target controls (before reals imags)) r (after reals imags) ⌝ }
 {
     on_pairs(
         reals,
@@ -67,7 +68,7 @@ pub fn y_apply(
     target: u32,
     controls: Controls,
 ) -> Answer
-    ensures { λ r. ⌜ Does (kernel yGate n target controls (buffers (now (reals .entry)) (now (imags .entry)))) r (buffers (now (reals .exit)) (now (imags .exit))) ⌝ }
+    ensures { λ r. ⌜ Does (kernel yGate n target controls (before reals imags)) r (after reals imags) ⌝ }
 {
     on_pairs(
         reals,
@@ -91,7 +92,7 @@ pub fn z_apply(
     target: u32,
     controls: Controls,
 ) -> Answer
-    ensures { λ r. ⌜ Does (kernel zGate n target controls (buffers (now (reals .entry)) (now (imags .entry)))) r (buffers (now (reals .exit)) (now (imags .exit))) ⌝ }
+    ensures { λ r. ⌜ Does (kernel zGate n target controls (before reals imags)) r (after reals imags) ⌝ }
 {
     on_uppers(reals, imags, n, target, controls, 0, &[], Z, no_angle())
 }
@@ -104,7 +105,7 @@ pub fn h_apply(
     target: u32,
     controls: Controls,
 ) -> Answer
-    ensures { λ r. ⌜ Does (kernel hGate n target controls (buffers (now (reals .entry)) (now (imags .entry)))) r (buffers (now (reals .exit)) (now (imags .exit))) ⌝ }
+    ensures { λ r. ⌜ Does (kernel hGate n target controls (before reals imags)) r (after reals imags) ⌝ }
 {
     on_pairs(
         reals,
@@ -129,7 +130,7 @@ pub fn p_apply(
     controls: Controls,
     angle: Angle,
 ) -> Answer
-    ensures { λ r. ⌜ Does (kernel (pGate angle) n target controls (buffers (now (reals .entry)) (now (imags .entry)))) r (buffers (now (reals .exit)) (now (imags .exit))) ⌝ }
+    ensures { λ r. ⌜ Does (kernel (pGate angle) n target controls (before reals imags)) r (after reals imags) ⌝ }
 {
     on_uppers(
         reals,
@@ -153,7 +154,7 @@ pub fn rx_apply(
     controls: Controls,
     angle: Angle,
 ) -> Answer
-    ensures { λ r. ⌜ Does (kernel (rxGate angle) n target controls (buffers (now (reals .entry)) (now (imags .entry)))) r (buffers (now (reals .exit)) (now (imags .exit))) ⌝ }
+    ensures { λ r. ⌜ Does (kernel (rxGate angle) n target controls (before reals imags)) r (after reals imags) ⌝ }
 {
     on_pairs(
         reals,
@@ -178,7 +179,7 @@ pub fn ry_apply(
     controls: Controls,
     angle: Angle,
 ) -> Answer
-    ensures { λ r. ⌜ Does (kernel (ryGate angle) n target controls (buffers (now (reals .entry)) (now (imags .entry)))) r (buffers (now (reals .exit)) (now (imags .exit))) ⌝ }
+    ensures { λ r. ⌜ Does (kernel (ryGate angle) n target controls (before reals imags)) r (after reals imags) ⌝ }
 {
     on_pairs(
         reals,
@@ -203,7 +204,7 @@ pub fn rz_apply(
     controls: Controls,
     angle: Angle,
 ) -> Answer
-    ensures { λ r. ⌜ Does (kernel (rzGate angle) n target controls (buffers (now (reals .entry)) (now (imags .entry)))) r (buffers (now (reals .exit)) (now (imags .exit))) ⌝ }
+    ensures { λ r. ⌜ Does (kernel (rzGate angle) n target controls (before reals imags)) r (after reals imags) ⌝ }
 {
     on_pairs(
         reals,
@@ -228,7 +229,7 @@ pub fn u_apply(
     controls: Controls,
     angles: Angles,
 ) -> Answer
-    ensures { λ r. ⌜ Does (kernel (uGate angles) n target controls (buffers (now (reals .entry)) (now (imags .entry)))) r (buffers (now (reals .exit)) (now (imags .exit))) ⌝ }
+    ensures { λ r. ⌜ Does (kernel (uGate angles) n target controls (before reals imags)) r (after reals imags) ⌝ }
 {
     let numbers = [
         angles.ct,
@@ -257,7 +258,7 @@ pub fn u_apply(
 
 // Amplitudes exchanged whose indices differ by exchanging the bits t0 and t1; a qubit with itself changes nothing.
 pub fn swap_apply(reals: &mut [f64], imags: &mut [f64], n: u32, t0: u32, t1: u32) -> Answer
-    ensures { λ r. ⌜ Does (swap n t0 t1 (buffers (now (reals .entry)) (now (imags .entry)))) r (buffers (now (reals .exit)) (now (imags .exit))) ⌝ }
+    ensures { λ r. ⌜ Does (swap n t0 t1 (before reals imags)) r (after reals imags) ⌝ }
 {
     swap_bits(reals, imags, n, t0, t1)
 }
@@ -270,7 +271,7 @@ pub fn bit_flip_noise_apply(
     target: u32,
     noise: Noise,
 ) -> Answer
-    ensures { λ r. ⌜ Does (bitFlip n target noise (buffers (now (reals .entry)) (now (imags .entry)))) r (buffers (now (reals .exit)) (now (imags .exit))) ⌝ }
+    ensures { λ r. ⌜ Does (bitFlip n target noise (before reals imags)) r (after reals imags) ⌝ }
 {
     let numbers = [noise.prob, noise.draw];
     let answer = state::judge(reals, imags, n, target, Controls { ones: 0 }, ANY, &numbers);

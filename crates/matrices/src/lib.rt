@@ -1,8 +1,8 @@
 // What every matrix call asks first: n from 1 to 6, and each buffer of exactly its length. With it go the laws of stretches of places that were filled.
 ghost use mathlib.Core.Bool.{_||_};
 ghost use mathlib.Core.Path.{_≡_};
-ghost use Rattle.book.specs.Answers.{buffers};
 ghost use Rattle.book.specs.Kernels.{badSize, badLength};
+ghost use Rattle.book.specs.Lent.{before};
 ghost use Rattle.book.specs.Matrices.{mostMatrix};
 
 // n is 1 to 6 for matrices.
@@ -20,7 +20,7 @@ pub fn bad_size(n: u32) -> bool
 
 // A buffer is not of exactly the length that is asked.
 pub fn bad_length(reals: &[f64], imags: &[f64], size: usize) -> bool
-    ensures { λ r. ⌜ r ≡ badLength size (buffers (now (reals .entry)) (now (imags .entry))) ⌝ }
+    ensures { λ r. ⌜ r ≡ badLength size (before reals imags) ⌝ }
 {
     if reals.len() != size {
         return true;
@@ -39,7 +39,7 @@ pub fn bad_lengths(
     imags: &[f64],
     size: usize,
 ) -> bool
-    ensures { λ r. ⌜ r ≡ (badLength entries (buffers (now (ar .entry)) (now (ai .entry))) || badLength size (buffers (now (br .entry)) (now (bi .entry))) || badLength size (buffers (now (reals .entry)) (now (imags .entry)))) ⌝ }
+    ensures { λ r. ⌜ r ≡ (badLength entries (before ar ai) || badLength size (before br bi) || badLength size (before reals imags)) ⌝ }
 {
     if bad_length(ar, ai, entries) {
         return true;

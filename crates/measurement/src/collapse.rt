@@ -1,15 +1,15 @@
 // The chosen half is multiplied by r, and the other half becomes +0.0, block by block.
 ghost use mathlib.Core.Path.{_≡_};
 ghost use Prim.Native.Nat.{_+_, _<_, _^_};
-ghost use Rattle.book.specs.Answers.{buffers};
+ghost use Rattle.book.specs.Lent.{before, after, here};
 ghost use Rattle.book.specs.Measuring.{collapsed};
 ghost use Rattle.book.specs.State.{at, held};
 ghost use Rattle.measurement.specs.Steps.{Sized, Stretch, kept, cleared, halfOf, Turns};
 
 // A stretch of the chosen half.
 fn scale(reals: &mut [f64], imags: &mut [f64], from: usize, to: usize, r: f64)
-    requires { ⌜ Stretch from to (buffers (now reals) (now imags)) ⌝ }
-    ensures { λ _. ⌜ Turns (λ i. kept r) from to (buffers (now (reals .entry)) (now (imags .entry))) (buffers (now (reals .exit)) (now (imags .exit))) ⌝ }
+    requires { ⌜ Stretch from to (here reals imags) ⌝ }
+    ensures { λ _. ⌜ Turns (λ i. kept r) from to (before reals imags) (after reals imags) ⌝ }
 {
     let mut i = from;
     while i < to {
@@ -21,8 +21,8 @@ fn scale(reals: &mut [f64], imags: &mut [f64], from: usize, to: usize, r: f64)
 
 // A stretch of the other half.
 fn clear(reals: &mut [f64], imags: &mut [f64], from: usize, to: usize)
-    requires { ⌜ Stretch from to (buffers (now reals) (now imags)) ⌝ }
-    ensures { λ _. ⌜ Turns (λ i. cleared) from to (buffers (now (reals .entry)) (now (imags .entry))) (buffers (now (reals .exit)) (now (imags .exit))) ⌝ }
+    requires { ⌜ Stretch from to (here reals imags) ⌝ }
+    ensures { λ _. ⌜ Turns (λ i. cleared) from to (before reals imags) (after reals imags) ⌝ }
 {
     let mut i = from;
     while i < to {
@@ -33,8 +33,8 @@ fn clear(reals: &mut [f64], imags: &mut [f64], from: usize, to: usize)
 }
 
 fn collapse_half(reals: &mut [f64], imags: &mut [f64], from: usize, to: usize, chosen: bool, r: f64)
-    requires { ⌜ Stretch from to (buffers (now reals) (now imags)) ⌝ }
-    ensures { λ _. ⌜ Turns (λ i. halfOf chosen r) from to (buffers (now (reals .entry)) (now (imags .entry))) (buffers (now (reals .exit)) (now (imags .exit))) ⌝ }
+    requires { ⌜ Stretch from to (here reals imags) ⌝ }
+    ensures { λ _. ⌜ Turns (λ i. halfOf chosen r) from to (before reals imags) (after reals imags) ⌝ }
 {
     if chosen {
         scale(reals, imags, from, to, r);
@@ -51,8 +51,8 @@ pub(crate) fn collapse(
     outcome: u8,
     r: f64,
 )
-    requires { ⌜ Sized n target (buffers (now reals) (now imags)) ⌝ }
-    ensures { λ _. ⌜ buffers (now (reals .exit)) (now (imags .exit)) ≡ held (2 ^ n) (collapsed target outcome r (at (buffers (now (reals .entry)) (now (imags .entry))))) ⌝ }
+    requires { ⌜ Sized n target (here reals imags) ⌝ }
+    ensures { λ _. ⌜ after reals imags ≡ held (2 ^ n) (collapsed target outcome r (at (before reals imags))) ⌝ }
 {
     let size: usize = 1 << n;
     let bit: usize = 1 << target;

@@ -10,7 +10,8 @@ use collapse::collapse;
 use probability::sum_lower;
 ghost use mathlib.Core.Path.{_≡_};
 ghost use Prim.Native.Nat.{_<_};
-ghost use Rattle.book.specs.Answers.{buffers, Does};
+ghost use Rattle.book.specs.Answers.{Does};
+ghost use Rattle.book.specs.Lent.{before, after, here};
 ghost use Rattle.book.specs.Measuring.{probability, badForced, badChance, measure, scale};
 ghost use Rattle.book.specs.State.{at};
 ghost use Rattle.measurement.specs.Steps.{Sized, Reset};
@@ -30,8 +31,8 @@ fn bad_forced(forced: Forced) -> bool
 
 // p0, or p1 = 1 - p0.
 fn chance(reals: &[f64], imags: &[f64], n: u32, target: u32, outcome: u8) -> f64
-    requires { ⌜ Sized n target (buffers (now reals) (now imags)) ⌝ }
-    ensures { λ r. ⌜ r ≡ probability n target outcome (at (buffers (now (reals .entry)) (now (imags .entry)))) ⌝ }
+    requires { ⌜ Sized n target (here reals imags) ⌝ }
+    ensures { λ r. ⌜ r ≡ probability n target outcome (at (before reals imags)) ⌝ }
 {
     let p0 = sum_lower(reals, imags, n, target);
     if outcome == 0 {
@@ -59,8 +60,8 @@ fn scale_of(p: f64) -> f64
 
 // If the outcome is 1 and reset is 1, X follows.
 fn set_back(reals: &mut [f64], imags: &mut [f64], n: u32, target: u32, forced: Forced)
-    requires { ⌜ Sized n target (buffers (now reals) (now imags)) ⌝ }
-    ensures { λ _. ⌜ Reset n target forced (buffers (now (reals .entry)) (now (imags .entry))) (buffers (now (reals .exit)) (now (imags .exit))) ⌝ }
+    requires { ⌜ Sized n target (here reals imags) ⌝ }
+    ensures { λ _. ⌜ Reset n target forced (before reals imags) (after reals imags) ⌝ }
 {
     if forced.outcome == 1 {
         if forced.reset == 1 {
@@ -77,7 +78,7 @@ pub fn measure_qubit(
     target: u32,
     forced: Forced,
 ) -> Answer
-    ensures { λ r. ⌜ Does (measure n target forced (buffers (now (reals .entry)) (now (imags .entry)))) r (buffers (now (reals .exit)) (now (imags .exit))) ⌝ }
+    ensures { λ r. ⌜ Does (measure n target forced (before reals imags)) r (after reals imags) ⌝ }
 {
     let answer = state::judge(reals, imags, n, target, Controls { ones: 0 }, ANY, &[]);
     if let Answer::Taken = answer {

@@ -9,7 +9,8 @@ use matrices::bad_lengths;
 use matrices::bad_size;
 use sums::fill_product;
 use sums::fill_state;
-ghost use Rattle.book.specs.Answers.{buffers, Does};
+ghost use Rattle.book.specs.Answers.{Does};
+ghost use Rattle.book.specs.Lent.{before, after};
 ghost use Rattle.book.specs.Matrices.{product, productState};
 
 // A times B, with A given first, into separate buffers.
@@ -22,7 +23,7 @@ pub fn multiply(
     imags: &mut [f64],
     n: u32,
 ) -> Answer
-    ensures { λ r. ⌜ Does (product n (buffers (now (ar .entry)) (now (ai .entry))) (buffers (now (br .entry)) (now (bi .entry))) (buffers (now (reals .entry)) (now (imags .entry)))) r (buffers (now (reals .exit)) (now (imags .exit))) ⌝ }
+    ensures { λ r. ⌜ Does (product n (before ar ai) (before br bi) (before reals imags)) r (after reals imags) ⌝ }
 {
     if bad_size(n) {
         return Answer::Refused(Refusal::Size);
@@ -46,7 +47,7 @@ pub fn apply_unitary(
     imags: &mut [f64],
     n: u32,
 ) -> Answer
-    ensures { λ r. ⌜ Does (productState n (buffers (now (ar .entry)) (now (ai .entry))) (buffers (now (sr .entry)) (now (si .entry))) (buffers (now (reals .entry)) (now (imags .entry)))) r (buffers (now (reals .exit)) (now (imags .exit))) ⌝ }
+    ensures { λ r. ⌜ Does (productState n (before ar ai) (before sr si) (before reals imags)) r (after reals imags) ⌝ }
 {
     if bad_size(n) {
         return Answer::Refused(Refusal::Size);

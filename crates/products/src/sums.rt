@@ -5,8 +5,8 @@ use crate::places::write_at;
 use book::Amplitude;
 ghost use mathlib.Core.Path.{_≡_};
 ghost use Prim.Native.Nat.{_+_, _*_, _≤_, _<_};
-ghost use Rattle.book.specs.Answers.{buffers};
 ghost use Rattle.book.specs.Gates.{nought};
+ghost use Rattle.book.specs.Lent.{before, after, here};
 ghost use Rattle.book.specs.Matrices.{addProduct};
 ghost use Rattle.book.specs.State.{amplitude};
 ghost use Rattle.matrices.specs.Filled.{Holds, Filled};
@@ -24,8 +24,8 @@ fn add_product(sum: Amplitude, a: Amplitude, b: Amplitude) -> Amplitude
 
 // A row of sums starts at 0.0.
 fn clear_row(reals: &mut [f64], imags: &mut [f64], from: usize, side: usize)
-    requires { ⌜ Holds (from + side) (buffers (now reals) (now imags)) ⌝ }
-    ensures { λ _. ⌜ Filled from side (λ j. amplitude nought nought) (buffers (now (reals .entry)) (now (imags .entry))) (buffers (now (reals .exit)) (now (imags .exit))) ⌝ }
+    requires { ⌜ Holds (from + side) (here reals imags) ⌝ }
+    ensures { λ _. ⌜ Filled from side (λ j. amplitude nought nought) (before reals imags) (after reals imags) ⌝ }
 {
     let mut j = 0;
     while j < side {
@@ -45,8 +45,8 @@ fn add_row(
     start: usize,
     side: usize,
 )
-    requires { ⌜ Holds (from + side) (buffers (now reals) (now imags)) × Holds (start + side) (buffers (now br) (now bi)) ⌝ }
-    ensures { λ _. ⌜ Filled from side (rowSum (buffers (now (reals .entry)) (now (imags .entry))) from a (buffers (now (br .entry)) (now (bi .entry))) start) (buffers (now (reals .entry)) (now (imags .entry))) (buffers (now (reals .exit)) (now (imags .exit))) ⌝ }
+    requires { ⌜ Holds (from + side) (here reals imags) × Holds (start + side) (here br bi) ⌝ }
+    ensures { λ _. ⌜ Filled from side (rowSum (before reals imags) from a (before br bi) start) (before reals imags) (after reals imags) ⌝ }
 {
     let re = a.re;
     let im = a.im;
@@ -71,8 +71,8 @@ fn fill_row(
     from: usize,
     side: usize,
 )
-    requires { ⌜ Small side (from + side) × Holds (from + side) (buffers (now ar) (now ai)) × Holds (side * side) (buffers (now br) (now bi)) × Holds (from + side) (buffers (now reals) (now imags)) ⌝ }
-    ensures { λ _. ⌜ Filled from side (rowDot side from (buffers (now (ar .entry)) (now (ai .entry))) (buffers (now (br .entry)) (now (bi .entry))) side) (buffers (now (reals .entry)) (now (imags .entry))) (buffers (now (reals .exit)) (now (imags .exit))) ⌝ }
+    requires { ⌜ Small side (from + side) × Holds (from + side) (here ar ai) × Holds (side * side) (here br bi) × Holds (from + side) (here reals imags) ⌝ }
+    ensures { λ _. ⌜ Filled from side (rowDot side from (before ar ai) (before br bi) side) (before reals imags) (after reals imags) ⌝ }
 {
     clear_row(reals, imags, from, side);
     let mut inner = 0;
@@ -93,8 +93,8 @@ pub(crate) fn fill_product(
     imags: &mut [f64],
     side: usize,
 )
-    requires { ⌜ (side ≤ 64) × Holds (side * side) (buffers (now ar) (now ai)) × Holds (side * side) (buffers (now br) (now bi)) × Holds (side * side) (buffers (now reals) (now imags)) ⌝ }
-    ensures { λ _. ⌜ Filled 0 (side * side) (product side (buffers (now (ar .entry)) (now (ai .entry))) (buffers (now (br .entry)) (now (bi .entry)))) (buffers (now (reals .entry)) (now (imags .entry))) (buffers (now (reals .exit)) (now (imags .exit))) ⌝ }
+    requires { ⌜ (side ≤ 64) × Holds (side * side) (here ar ai) × Holds (side * side) (here br bi) × Holds (side * side) (here reals imags) ⌝ }
+    ensures { λ _. ⌜ Filled 0 (side * side) (product side (before ar ai) (before br bi)) (before reals imags) (after reals imags) ⌝ }
 {
     let mut row = 0;
     while row < side {
@@ -105,8 +105,8 @@ pub(crate) fn fill_product(
 
 // A row of A times a state.
 fn row_dot(ar: &[f64], ai: &[f64], br: &[f64], bi: &[f64], from: usize, side: usize) -> Amplitude
-    requires { ⌜ Holds (from + side) (buffers (now ar) (now ai)) × Holds side (buffers (now br) (now bi)) ⌝ }
-    ensures { λ r. ⌜ r ≡ stateDot (buffers (now (ar .entry)) (now (ai .entry))) from (buffers (now (br .entry)) (now (bi .entry))) side ⌝ }
+    requires { ⌜ Holds (from + side) (here ar ai) × Holds side (here br bi) ⌝ }
+    ensures { λ r. ⌜ r ≡ stateDot (before ar ai) from (before br bi) side ⌝ }
 {
     let mut sum = Amplitude { re: 0.0, im: 0.0 };
     let mut inner = 0;
@@ -129,8 +129,8 @@ pub(crate) fn fill_state(
     imags: &mut [f64],
     side: usize,
 )
-    requires { ⌜ (side ≤ 64) × Holds (side * side) (buffers (now ar) (now ai)) × Holds side (buffers (now br) (now bi)) × Holds side (buffers (now reals) (now imags)) ⌝ }
-    ensures { λ _. ⌜ Filled 0 side (λ row. stateDot (buffers (now (ar .entry)) (now (ai .entry))) (row * side) (buffers (now (br .entry)) (now (bi .entry))) side) (buffers (now (reals .entry)) (now (imags .entry))) (buffers (now (reals .exit)) (now (imags .exit))) ⌝ }
+    requires { ⌜ (side ≤ 64) × Holds (side * side) (here ar ai) × Holds side (here br bi) × Holds side (here reals imags) ⌝ }
+    ensures { λ _. ⌜ Filled 0 side (λ row. stateDot (before ar ai) (row * side) (before br bi) side) (before reals imags) (after reals imags) ⌝ }
 {
     let mut row = 0;
     while row < side {

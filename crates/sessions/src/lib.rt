@@ -7,7 +7,8 @@ use book::Record;
 use book::Refusal;
 ghost use mathlib.Core.Path.{_≡_};
 ghost use Prim.Native.Nat.{_+_, _<_};
-ghost use Rattle.book.specs.Answers.{buffers, Does};
+ghost use Rattle.book.specs.Answers.{Does};
+ghost use Rattle.book.specs.Lent.{before, after};
 ghost use Rattle.book.specs.Sessions.{takeRecord, deliver};
 ghost use Rattle.book.specs.Sessions as Book;
 ghost use Rattle.sessions.specs.Deliveries.{meant, startedOf, told, raised, countedOf, Delivers};
@@ -114,14 +115,14 @@ impl Session {
 
     // The gate is run, whatever the count is.
     fn run(self, gate: Gate, reals: &mut [f64], imags: &mut [f64]) -> Answer
-        ensures { λ r. ⌜ Does (Book.act (self .n) gate (buffers (now (reals .entry)) (now (imags .entry)))) r (buffers (now (reals .exit)) (now (imags .exit))) ⌝ }
+        ensures { λ r. ⌜ Does (Book.act (self .n) gate (before reals imags)) r (after reals imags) ⌝ }
     {
         act(self.n, gate, reals, imags)
     }
 
     // 9, 11; then AGAIN, 10, and only the next number goes on to the gate.
     fn take_record(self, it: Record, reals: &mut [f64], imags: &mut [f64]) -> Delivered
-        ensures { λ r. ⌜ Delivers (takeRecord (meant self) (buffers (now (reals .entry)) (now (imags .entry))) it) r (buffers (now (reals .exit)) (now (imags .exit))) ⌝ }
+        ensures { λ r. ⌜ Delivers (takeRecord (meant self) (before reals imags) it) r (after reals imags) ⌝ }
     {
         if it.session != self.number {
             return self.refused(Refusal::Session);
@@ -144,7 +145,7 @@ impl Session {
 
     // 1, 2 and 8, and then what the record does.
     pub fn deliver(self, bytes: &[u8], reals: &mut [f64], imags: &mut [f64]) -> Delivered
-        ensures { λ r. ⌜ Delivers (deliver (meant self) (buffers (now (reals .entry)) (now (imags .entry))) (now (bytes .entry))) r (buffers (now (reals .exit)) (now (imags .exit))) ⌝ }
+        ensures { λ r. ⌜ Delivers (deliver (meant self) (before reals imags) (now (bytes .entry))) r (after reals imags) ⌝ }
     {
         let n = self.n;
         if n < 1 {

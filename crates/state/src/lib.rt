@@ -5,8 +5,8 @@ use book::Controls;
 use book::Refusal;
 ghost use lib.Ieee.Scale.{finite};
 ghost use mathlib.Core.Path.{_≡_};
-ghost use Rattle.book.specs.Answers.{buffers};
 ghost use Rattle.book.specs.Kernels.{allFinite};
+ghost use Rattle.book.specs.Lent.{before};
 ghost use Rattle.state.specs.Judging.{Judged};
 
 // n is 1 to 24 for kernels and sessions.
@@ -44,7 +44,7 @@ pub fn judge(
     most: u32,
     numbers: &[f64],
 ) -> Answer
-    ensures { λ r. ⌜ Judged most (now (numbers .entry)) n target controls (buffers (now (reals .entry)) (now (imags .entry))) r ⌝ }
+    ensures { λ r. ⌜ Judged most (now (numbers .entry)) n target controls (before reals imags) r ⌝ }
 {
     if n < 1 {
         return Answer::Refused(Refusal::Size);

@@ -4,7 +4,7 @@ use super::pairs::write_pair;
 use book::Angle;
 use book::Matrix;
 use rules::Rule;
-ghost use Rattle.book.specs.Answers.{buffers};
+ghost use Rattle.book.specs.Lent.{before, after, here};
 ghost use Rattle.book.specs.State.{at};
 ghost use Rattle.rules.specs.Rules.{ruleOf};
 ghost use Rattle.state.specs.Pairs.{TwoPlaces, Stepped, SameSize, Keyed, Swept};
@@ -18,8 +18,8 @@ fn step(
     angle: Angle,
     matrix: Matrix,
 )
-    requires { ⌜ TwoPlaces (buffers (now reals) (now imags)) s0 s1 ⌝ }
-    ensures { λ _. ⌜ Stepped (ruleOf rule angle matrix) s0 s1 (at (buffers (now (reals .entry)) (now (imags .entry)))) (at (buffers (now (reals .exit)) (now (imags .exit)))) × SameSize (buffers (now (reals .entry)) (now (imags .entry))) (buffers (now (reals .exit)) (now (imags .exit))) ⌝ }
+    requires { ⌜ TwoPlaces (here reals imags) s0 s1 ⌝ }
+    ensures { λ _. ⌜ Stepped (ruleOf rule angle matrix) s0 s1 (at (before reals imags)) (at (after reals imags)) × SameSize (before reals imags) (after reals imags) ⌝ }
 {
     let p = read_pair(reals, imags, s0, s1);
     let q = rules::put(rule, angle, matrix, p);
@@ -38,8 +38,8 @@ pub(crate) fn by_keys(
     angle: Angle,
     matrix: Matrix,
 )
-    requires { ⌜ Keyed n fixed back0 back1 (buffers (now reals) (now imags)) ⌝ }
-    ensures { λ _. ⌜ Swept (ruleOf rule angle matrix) n fixed back0 back1 (buffers (now (reals .entry)) (now (imags .entry))) (buffers (now (reals .exit)) (now (imags .exit))) ⌝ }
+    requires { ⌜ Keyed n fixed back0 back1 (here reals imags) ⌝ }
+    ensures { λ _. ⌜ Swept (ruleOf rule angle matrix) n fixed back0 back1 (before reals imags) (after reals imags) ⌝ }
 {
     let size: usize = 1 << n;
     let mut w = fixed;

@@ -15,9 +15,10 @@ use runs::neighbours;
 use runs::short;
 use runs::strided;
 ghost use Prim.Native.Nat.{_≤_};
-ghost use Rattle.book.specs.Answers.{buffers, Does};
+ghost use Rattle.book.specs.Answers.{Does};
 ghost use Rattle.book.specs.Gates.{pairGate};
 ghost use Rattle.book.specs.Kernels.{kernel, swap};
+ghost use Rattle.book.specs.Lent.{before, after, here};
 ghost use Rattle.rules.specs.Rules.{ruleOf};
 ghost use Rattle.state.specs.Pairs.{Keyed, Swept};
 
@@ -43,8 +44,8 @@ fn sweep(
     angle: Angle,
     matrix: Matrix,
 )
-    requires { ⌜ Keyed n fixed back0 back1 (buffers (now reals) (now imags)) ⌝ }
-    ensures { λ _. ⌜ Swept (ruleOf rule angle matrix) n fixed back0 back1 (buffers (now (reals .entry)) (now (imags .entry))) (buffers (now (reals .exit)) (now (imags .exit))) ⌝ }
+    requires { ⌜ Keyed n fixed back0 back1 (here reals imags) ⌝ }
+    ensures { λ _. ⌜ Swept (ruleOf rule angle matrix) n fixed back0 back1 (before reals imags) (after reals imags) ⌝ }
 {
     let size: usize = 1 << n;
     let code = rules::code(rule);
@@ -102,7 +103,7 @@ pub fn on_pairs(
     angle: Angle,
     matrix: Matrix,
 ) -> Answer
-    ensures { λ r. ⌜ Does (kernel (pairGate (ruleOf rule angle matrix) most (now (numbers .entry))) n target controls (buffers (now (reals .entry)) (now (imags .entry)))) r (buffers (now (reals .exit)) (now (imags .exit))) ⌝ }
+    ensures { λ r. ⌜ Does (kernel (pairGate (ruleOf rule angle matrix) most (now (numbers .entry))) n target controls (before reals imags)) r (after reals imags) ⌝ }
 {
     let answer = state::judge(reals, imags, n, target, controls, most, numbers);
     if let Answer::Taken = answer {
@@ -129,7 +130,7 @@ fn no_matrix() -> Matrix {
 // SWAP of two qubits of which the first is not the higher: the places that have both bits are the keys of the pairs to exchange.
 fn exchange(reals: &mut [f64], imags: &mut [f64], n: u32, low: u32, high: u32) -> Answer
     requires { ⌜ low ≤ high ⌝ }
-    ensures { λ r. ⌜ Does (swap n low high (buffers (now (reals .entry)) (now (imags .entry)))) r (buffers (now (reals .exit)) (now (imags .exit))) ⌝ }
+    ensures { λ r. ⌜ Does (swap n low high (before reals imags)) r (after reals imags) ⌝ }
 {
     let answer = state::judge(reals, imags, n, high, Controls { ones: 0 }, ANY, &[]);
     if let Answer::Taken = answer {
@@ -155,7 +156,7 @@ fn exchange(reals: &mut [f64], imags: &mut [f64], n: u32, low: u32, high: u32) -
 
 // Amplitudes exchanged whose indices differ by exchanging the bits t0 and t1; a qubit with itself changes nothing.
 pub fn swap_bits(reals: &mut [f64], imags: &mut [f64], n: u32, t0: u32, t1: u32) -> Answer
-    ensures { λ r. ⌜ Does (swap n t0 t1 (buffers (now (reals .entry)) (now (imags .entry)))) r (buffers (now (reals .exit)) (now (imags .exit))) ⌝ }
+    ensures { λ r. ⌜ Does (swap n t0 t1 (before reals imags)) r (after reals imags) ⌝ }
 {
     if t1 < t0 {
         return exchange(reals, imags, n, t1, t0);

@@ -2,14 +2,14 @@
 use book::Amplitude;
 use book::Pair;
 ghost use mathlib.Core.Path.{_≡_};
-ghost use Rattle.book.specs.Answers.{buffers};
+ghost use Rattle.book.specs.Lent.{before, after, here};
 ghost use Rattle.book.specs.State.{at};
 ghost use Rattle.state.specs.Pairs.{TwoPlaces, pairAt, Stepped, SameSize};
 ghost use Rattle.state.specs.Runs.{FourPlaces, WrittenTwo};
 
 pub(crate) fn read_pair(reals: &[f64], imags: &[f64], s0: usize, s1: usize) -> Pair
-    requires { ⌜ TwoPlaces (buffers (now reals) (now imags)) s0 s1 ⌝ }
-    ensures { λ r. ⌜ r ≡ pairAt (buffers (now (reals .entry)) (now (imags .entry))) s0 s1 ⌝ }
+    requires { ⌜ TwoPlaces (here reals imags) s0 s1 ⌝ }
+    ensures { λ r. ⌜ r ≡ pairAt (before reals imags) s0 s1 ⌝ }
 {
     Pair {
         s0: Amplitude {
@@ -24,8 +24,8 @@ pub(crate) fn read_pair(reals: &[f64], imags: &[f64], s0: usize, s1: usize) -> P
 }
 
 pub(crate) fn write_pair(reals: &mut [f64], imags: &mut [f64], s0: usize, s1: usize, p: Pair)
-    requires { ⌜ TwoPlaces (buffers (now reals) (now imags)) s0 s1 ⌝ }
-    ensures { λ _. ⌜ Stepped (λ q. p) s0 s1 (at (buffers (now (reals .entry)) (now (imags .entry)))) (at (buffers (now (reals .exit)) (now (imags .exit)))) × SameSize (buffers (now (reals .entry)) (now (imags .entry))) (buffers (now (reals .exit)) (now (imags .exit))) ⌝ }
+    requires { ⌜ TwoPlaces (here reals imags) s0 s1 ⌝ }
+    ensures { λ _. ⌜ Stepped (λ q. p) s0 s1 (at (before reals imags)) (at (after reals imags)) × SameSize (before reals imags) (after reals imags) ⌝ }
 {
     let ab = p.s0;
     let cd = p.s1;
@@ -45,8 +45,8 @@ pub(crate) fn write_two(
     p: Pair,
     q: Pair,
 )
-    requires { ⌜ FourPlaces (buffers (now reals) (now imags)) s0 s1 stride ⌝ }
-    ensures { λ _. ⌜ WrittenTwo s0 s1 stride p q (at (buffers (now (reals .entry)) (now (imags .entry)))) (at (buffers (now (reals .exit)) (now (imags .exit)))) × SameSize (buffers (now (reals .entry)) (now (imags .entry))) (buffers (now (reals .exit)) (now (imags .exit))) ⌝ }
+    requires { ⌜ FourPlaces (here reals imags) s0 s1 stride ⌝ }
+    ensures { λ _. ⌜ WrittenTwo s0 s1 stride p q (at (before reals imags)) (at (after reals imags)) × SameSize (before reals imags) (after reals imags) ⌝ }
 {
     let ab = p.s0;
     let cd = p.s1;

@@ -7,7 +7,7 @@ use super::pairs::write_two;
 use book::Angle;
 use rules::put_quick;
 ghost use Prim.Native.Nat.{_+_, _-_};
-ghost use Rattle.book.specs.Answers.{buffers};
+ghost use Rattle.book.specs.Lent.{before, after, here};
 ghost use Rattle.rules.specs.Rules.{quickOf};
 ghost use Rattle.state.specs.Pairs.{Swept};
 ghost use Rattle.state.specs.Runs.{Run, Ran, Runs};
@@ -22,8 +22,8 @@ fn along(
     rule: u32,
     angle: Angle,
 )
-    requires { ⌜ Run run d stride (buffers (now reals) (now imags)) ⌝ }
-    ensures { λ _. ⌜ Ran (quickOf rule angle) run d stride (buffers (now (reals .entry)) (now (imags .entry))) (buffers (now (reals .exit)) (now (imags .exit))) ⌝ }
+    requires { ⌜ Run run d stride (here reals imags) ⌝ }
+    ensures { λ _. ⌜ Ran (quickOf rule angle) run d stride (before reals imags) (after reals imags) ⌝ }
 {
     let mut i = 0;
     while i < run {
@@ -44,8 +44,8 @@ fn by_twos(
     rule: u32,
     angle: Angle,
 )
-    requires { ⌜ Run run d stride (buffers (now reals) (now imags)) ⌝ }
-    ensures { λ _. ⌜ Ran (quickOf rule angle) run d stride (buffers (now (reals .entry)) (now (imags .entry))) (buffers (now (reals .exit)) (now (imags .exit))) ⌝ }
+    requires { ⌜ Run run d stride (here reals imags) ⌝ }
+    ensures { λ _. ⌜ Ran (quickOf rule angle) run d stride (before reals imags) (after reals imags) ⌝ }
 {
     let mut i = 0;
     while i < run {
@@ -70,8 +70,8 @@ fn part(
     rule: u32,
     angle: Angle,
 )
-    requires { ⌜ Run run d stride (buffers (now reals) (now imags)) ⌝ }
-    ensures { λ _. ⌜ Ran (quickOf rule angle) run d stride (buffers (now (reals .entry)) (now (imags .entry))) (buffers (now (reals .exit)) (now (imags .exit))) ⌝ }
+    requires { ⌜ Run run d stride (here reals imags) ⌝ }
+    ensures { λ _. ⌜ Ran (quickOf rule angle) run d stride (before reals imags) (after reals imags) ⌝ }
 {
     if two {
         by_twos(reals, imags, run, d, stride, rule, angle);
@@ -94,8 +94,8 @@ fn runs(
     rule: u32,
     angle: Angle,
 )
-    requires { ⌜ Runs n wide run stride back0 back1 (buffers (now reals) (now imags)) ⌝ }
-    ensures { λ _. ⌜ Swept (quickOf rule angle) n (wide + (stride - 1)) back0 back1 (buffers (now (reals .entry)) (now (imags .entry))) (buffers (now (reals .exit)) (now (imags .exit))) ⌝ }
+    requires { ⌜ Runs n wide run stride back0 back1 (here reals imags) ⌝ }
+    ensures { λ _. ⌜ Swept (quickOf rule angle) n (wide + (stride - 1)) back0 back1 (before reals imags) (after reals imags) ⌝ }
 {
     let size = reals.len();
     let low = stride - 1;
@@ -131,8 +131,8 @@ fn ones(
     rule: u32,
     angle: Angle,
 )
-    requires { ⌜ Runs n wide run stride back0 back1 (buffers (now reals) (now imags)) ⌝ }
-    ensures { λ _. ⌜ Swept (quickOf rule angle) n (wide + (stride - 1)) back0 back1 (buffers (now (reals .entry)) (now (imags .entry))) (buffers (now (reals .exit)) (now (imags .exit))) ⌝ }
+    requires { ⌜ Runs n wide run stride back0 back1 (here reals imags) ⌝ }
+    ensures { λ _. ⌜ Swept (quickOf rule angle) n (wide + (stride - 1)) back0 back1 (before reals imags) (after reals imags) ⌝ }
 {
     runs(
         reals,
@@ -162,8 +162,8 @@ fn twos(
     rule: u32,
     angle: Angle,
 )
-    requires { ⌜ Runs n wide run stride back0 back1 (buffers (now reals) (now imags)) ⌝ }
-    ensures { λ _. ⌜ Swept (quickOf rule angle) n (wide + (stride - 1)) back0 back1 (buffers (now (reals .entry)) (now (imags .entry))) (buffers (now (reals .exit)) (now (imags .exit))) ⌝ }
+    requires { ⌜ Runs n wide run stride back0 back1 (here reals imags) ⌝ }
+    ensures { λ _. ⌜ Swept (quickOf rule angle) n (wide + (stride - 1)) back0 back1 (before reals imags) (after reals imags) ⌝ }
 {
     runs(
         reals,
@@ -192,8 +192,8 @@ pub(crate) fn dense(
     rule: u32,
     angle: Angle,
 )
-    requires { ⌜ Runs n wide run 1 back0 back1 (buffers (now reals) (now imags)) ⌝ }
-    ensures { λ _. ⌜ Swept (quickOf rule angle) n (wide + (1 - 1)) back0 back1 (buffers (now (reals .entry)) (now (imags .entry))) (buffers (now (reals .exit)) (now (imags .exit))) ⌝ }
+    requires { ⌜ Runs n wide run 1 back0 back1 (here reals imags) ⌝ }
+    ensures { λ _. ⌜ Swept (quickOf rule angle) n (wide + (1 - 1)) back0 back1 (before reals imags) (after reals imags) ⌝ }
 {
     match rule {
         0 => ones(reals, imags, n, wide, run, 1, back0, back1, rule, angle),
@@ -217,8 +217,8 @@ pub(crate) fn short(
     rule: u32,
     angle: Angle,
 )
-    requires { ⌜ Runs n wide run 1 back0 back1 (buffers (now reals) (now imags)) ⌝ }
-    ensures { λ _. ⌜ Swept (quickOf rule angle) n (wide + (1 - 1)) back0 back1 (buffers (now (reals .entry)) (now (imags .entry))) (buffers (now (reals .exit)) (now (imags .exit))) ⌝ }
+    requires { ⌜ Runs n wide run 1 back0 back1 (here reals imags) ⌝ }
+    ensures { λ _. ⌜ Swept (quickOf rule angle) n (wide + (1 - 1)) back0 back1 (before reals imags) (after reals imags) ⌝ }
 {
     match rule {
         0 => twos(reals, imags, n, wide, run, 1, back0, back1, rule, angle),
@@ -240,8 +240,8 @@ pub(crate) fn neighbours(
     rule: u32,
     angle: Angle,
 )
-    requires { ⌜ Runs n wide run 2 1 0 (buffers (now reals) (now imags)) ⌝ }
-    ensures { λ _. ⌜ Swept (quickOf rule angle) n (wide + (2 - 1)) 1 0 (buffers (now (reals .entry)) (now (imags .entry))) (buffers (now (reals .exit)) (now (imags .exit))) ⌝ }
+    requires { ⌜ Runs n wide run 2 1 0 (here reals imags) ⌝ }
+    ensures { λ _. ⌜ Swept (quickOf rule angle) n (wide + (2 - 1)) 1 0 (before reals imags) (after reals imags) ⌝ }
 {
     match rule {
         0 => twos(reals, imags, n, wide, run, 2, 1, 0, rule, angle),
@@ -266,8 +266,8 @@ pub(crate) fn strided(
     rule: u32,
     angle: Angle,
 )
-    requires { ⌜ Runs n wide run step back0 back1 (buffers (now reals) (now imags)) ⌝ }
-    ensures { λ _. ⌜ Swept (quickOf rule angle) n (wide + (step - 1)) back0 back1 (buffers (now (reals .entry)) (now (imags .entry))) (buffers (now (reals .exit)) (now (imags .exit))) ⌝ }
+    requires { ⌜ Runs n wide run step back0 back1 (here reals imags) ⌝ }
+    ensures { λ _. ⌜ Swept (quickOf rule angle) n (wide + (step - 1)) back0 back1 (before reals imags) (after reals imags) ⌝ }
 {
     match rule {
         0 => twos(reals, imags, n, wide, run, step, back0, back1, rule, angle),

@@ -3,7 +3,7 @@ use book::Amplitude;
 use book::Matrix;
 ghost use mathlib.Core.Path.{_≡_};
 ghost use Prim.Native.Nat.{_+_, _*_, _/_, _%_, _≤_, _<_};
-ghost use Rattle.book.specs.Answers.{buffers};
+ghost use Rattle.book.specs.Lent.{before, after, here};
 ghost use Rattle.book.specs.Matrices.{crossing, pairOf};
 ghost use Rattle.matrices.specs.Filled.{Holds, Filled};
 
@@ -35,8 +35,8 @@ pub(crate) fn fill_crossings(
     target: u32,
     side: usize,
 )
-    requires { ⌜ (target < 6) × (1 ≤ side) × (side ≤ 64) × Holds (side * side) (buffers (now reals) (now imags)) ⌝ }
-    ensures { λ _. ⌜ Filled 0 (side * side) (λ k. crossing matrix target (k / side) (k % side)) (buffers (now (reals .entry)) (now (imags .entry))) (buffers (now (reals .exit)) (now (imags .exit))) ⌝ }
+    requires { ⌜ (target < 6) × (1 ≤ side) × (side ≤ 64) × Holds (side * side) (here reals imags) ⌝ }
+    ensures { λ _. ⌜ Filled 0 (side * side) (λ k. crossing matrix target (k / side) (k % side)) (before reals imags) (after reals imags) ⌝ }
 {
     let entries = matrix.entries;
     let size = side * side;

@@ -14,8 +14,9 @@ pub use products::apply_unitary;
 pub use products::multiply;
 use transpose::turn_all;
 ghost use mathlib.Core.Path.{_≡_};
-ghost use Rattle.book.specs.Answers.{buffers, Does};
+ghost use Rattle.book.specs.Answers.{Does};
 ghost use Rattle.book.specs.Kernels.{allFinite};
+ghost use Rattle.book.specs.Lent.{before, after};
 ghost use Rattle.book.specs.Matrices.{numbersOf, gateMatrix, conjugateTranspose};
 
 // Each number of the four amplitudes is finite.
@@ -38,7 +39,7 @@ pub fn from_single_qubit_gate(
     target: u32,
     matrix: Matrix,
 ) -> Answer
-    ensures { λ r. ⌜ Does (gateMatrix matrix n target (buffers (now (reals .entry)) (now (imags .entry)))) r (buffers (now (reals .exit)) (now (imags .exit))) ⌝ }
+    ensures { λ r. ⌜ Does (gateMatrix matrix n target (before reals imags)) r (after reals imags) ⌝ }
 {
     if bad_size(n) {
         return Answer::Refused(Refusal::Size);
@@ -59,7 +60,7 @@ pub fn from_single_qubit_gate(
 
 // Every imaginary part negated, then transposed, in place.
 pub fn conj_t(reals: &mut [f64], imags: &mut [f64], n: u32) -> Answer
-    ensures { λ r. ⌜ Does (conjugateTranspose n (buffers (now (reals .entry)) (now (imags .entry)))) r (buffers (now (reals .exit)) (now (imags .exit))) ⌝ }
+    ensures { λ r. ⌜ Does (conjugateTranspose n (before reals imags)) r (after reals imags) ⌝ }
 {
     if bad_size(n) {
         return Answer::Refused(Refusal::Size);

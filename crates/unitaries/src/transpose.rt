@@ -2,7 +2,7 @@
 // diagonal is its own mirror.
 ghost use mathlib.Core.Path.{_≡_};
 ghost use Prim.Native.Nat.{_+_, _*_, _/_, _%_, _≤_, _<_};
-ghost use Rattle.book.specs.Answers.{buffers};
+ghost use Rattle.book.specs.Lent.{before, after, here};
 ghost use Rattle.matrices.specs.Filled.{Holds};
 ghost use Rattle.unitaries.specs.Mirrored.{mirror, Crossed, TurnedAt, Turned};
 
@@ -16,8 +16,8 @@ fn mirror_of(place: usize, side: usize) -> usize
 
 // Two places, or one, exchanged and negated.
 fn cross(reals: &mut [f64], imags: &mut [f64], i: usize, j: usize)
-    requires { ⌜ Holds (i + 1) (buffers (now reals) (now imags)) × Holds (j + 1) (buffers (now reals) (now imags)) ⌝ }
-    ensures { λ _. ⌜ Crossed i j (buffers (now (reals .entry)) (now (imags .entry))) (buffers (now (reals .exit)) (now (imags .exit))) ⌝ }
+    requires { ⌜ Holds (i + 1) (here reals imags) × Holds (j + 1) (here reals imags) ⌝ }
+    ensures { λ _. ⌜ Crossed i j (before reals imags) (after reals imags) ⌝ }
 {
     let re = reals[i];
     let im = imags[i];
@@ -31,8 +31,8 @@ fn cross(reals: &mut [f64], imags: &mut [f64], i: usize, j: usize)
 
 // A place is crossed with its mirror, unless the mirror came before it.
 fn turn_at(reals: &mut [f64], imags: &mut [f64], place: usize, side: usize)
-    requires { ⌜ (place < side * side) × (side ≤ 64) × Holds (side * side) (buffers (now reals) (now imags)) ⌝ }
-    ensures { λ _. ⌜ TurnedAt side place (buffers (now (reals .entry)) (now (imags .entry))) (buffers (now (reals .exit)) (now (imags .exit))) ⌝ }
+    requires { ⌜ (place < side * side) × (side ≤ 64) × Holds (side * side) (here reals imags) ⌝ }
+    ensures { λ _. ⌜ TurnedAt side place (before reals imags) (after reals imags) ⌝ }
 {
     let other = mirror_of(place, side);
     if other < place {
@@ -42,8 +42,8 @@ fn turn_at(reals: &mut [f64], imags: &mut [f64], place: usize, side: usize)
 }
 
 pub(crate) fn turn_all(reals: &mut [f64], imags: &mut [f64], side: usize)
-    requires { ⌜ (side ≤ 64) × Holds (side * side) (buffers (now reals) (now imags)) ⌝ }
-    ensures { λ _. ⌜ Turned side (side * side) (buffers (now (reals .entry)) (now (imags .entry))) (buffers (now (reals .exit)) (now (imags .exit))) ⌝ }
+    requires { ⌜ (side ≤ 64) × Holds (side * side) (here reals imags) ⌝ }
+    ensures { λ _. ⌜ Turned side (side * side) (before reals imags) (after reals imags) ⌝ }
 {
     let size = side * side;
     let mut place = 0;

@@ -6,9 +6,10 @@ use book::Controls;
 ghost use Prim.Native.Nat.{_%_};
 ghost use lib.ListN.{length};
 ghost use mathlib.Core.Path.{_≡_};
-ghost use Rattle.book.specs.Answers.{buffers, Does};
+ghost use Rattle.book.specs.Answers.{Does};
 ghost use Rattle.book.specs.Gates.{pairGate};
 ghost use Rattle.book.specs.Kernels.{kernel};
+ghost use Rattle.book.specs.Lent.{before, after, here};
 ghost use Rattle.book.specs.State.{onPairs};
 ghost use Rattle.rules.specs.Rules.{upperOf, upperRule};
 ghost use Rattle.state.specs.Judging.{Seated};
@@ -17,7 +18,7 @@ ghost use Rattle.uppers.specs.Uppers.{masked, turnedAt, HalfTurned};
 // Every place of the lent half, one at a turn.
 fn turn_along(reals: &mut [f64], imags: &mut [f64], upper: u32, angle: Angle)
     requires { ⌜ length (now imags) ≡ length (now reals) ⌝ }
-    ensures { λ _. ⌜ HalfTurned (λ _. upperOf upper angle) (buffers (now (reals .entry)) (now (imags .entry))) (buffers (now (reals .exit)) (now (imags .exit))) ⌝ }
+    ensures { λ _. ⌜ HalfTurned (λ _. upperOf upper angle) (before reals imags) (after reals imags) ⌝ }
 {
     let mut j = 0;
     while j < reals.len() {
@@ -35,7 +36,7 @@ fn turn_along(reals: &mut [f64], imags: &mut [f64], upper: u32, angle: Angle)
 // Two places at a turn: both are read before either is written, and one buffer's stores stand together, so that the compiler can join them.
 fn turn_by_twos(reals: &mut [f64], imags: &mut [f64], upper: u32, angle: Angle)
     requires { ⌜ (length (now imags) ≡ length (now reals)) × (length (now reals) % 2 ≡ 0) ⌝ }
-    ensures { λ _. ⌜ HalfTurned (λ _. upperOf upper angle) (buffers (now (reals .entry)) (now (imags .entry))) (buffers (now (reals .exit)) (now (imags .exit))) ⌝ }
+    ensures { λ _. ⌜ HalfTurned (λ _. upperOf upper angle) (before reals imags) (after reals imags) ⌝ }
 {
     let mut j = 0;
     while j < reals.len() {
@@ -61,7 +62,7 @@ fn turn_by_twos(reals: &mut [f64], imags: &mut [f64], upper: u32, angle: Angle)
 // The places that have all bits of low, rising.
 fn turn_chosen(reals: &mut [f64], imags: &mut [f64], low: usize, upper: u32, angle: Angle)
     requires { ⌜ length (now imags) ≡ length (now reals) ⌝ }
-    ensures { λ _. ⌜ HalfTurned (turnedAt (masked low) upper angle) (buffers (now (reals .entry)) (now (imags .entry))) (buffers (now (reals .exit)) (now (imags .exit))) ⌝ }
+    ensures { λ _. ⌜ HalfTurned (turnedAt (masked low) upper angle) (before reals imags) (after reals imags) ⌝ }
 {
     let mut j = low;
     while j < reals.len() {
@@ -81,7 +82,7 @@ const LONG: usize = 8;
 
 fn turn_half(reals: &mut [f64], imags: &mut [f64], low: usize, upper: u32, angle: Angle)
     requires { ⌜ length (now imags) ≡ length (now reals) ⌝ }
-    ensures { λ _. ⌜ HalfTurned (turnedAt (masked low) upper angle) (buffers (now (reals .entry)) (now (imags .entry))) (buffers (now (reals .exit)) (now (imags .exit))) ⌝ }
+    ensures { λ _. ⌜ HalfTurned (turnedAt (masked low) upper angle) (before reals imags) (after reals imags) ⌝ }
 {
     if low != 0 {
         turn_chosen(reals, imags, low, upper, angle);
@@ -107,8 +108,8 @@ fn turn_blocks(
     upper: u32,
     angle: Angle,
 )
-    requires { ⌜ Seated n target (masked ones) (buffers (now reals) (now imags)) ⌝ }
-    ensures { λ _. ⌜ buffers (now (reals .exit)) (now (imags .exit)) ≡ onPairs (upperRule upper angle) n target (masked ones) (buffers (now (reals .entry)) (now (imags .entry))) ⌝ }
+    requires { ⌜ Seated n target (masked ones) (here reals imags) ⌝ }
+    ensures { λ _. ⌜ after reals imags ≡ onPairs (upperRule upper angle) n target (masked ones) (before reals imags) ⌝ }
 {
     let size: usize = 1 << n;
     let bit: usize = 1 << target;
@@ -133,8 +134,8 @@ fn by_target(
     upper: u32,
     angle: Angle,
 )
-    requires { ⌜ Seated n target (masked ones) (buffers (now reals) (now imags)) ⌝ }
-    ensures { λ _. ⌜ buffers (now (reals .exit)) (now (imags .exit)) ≡ onPairs (upperRule upper angle) n target (masked ones) (buffers (now (reals .entry)) (now (imags .entry))) ⌝ }
+    requires { ⌜ Seated n target (masked ones) (here reals imags) ⌝ }
+    ensures { λ _. ⌜ after reals imags ≡ onPairs (upperRule upper angle) n target (masked ones) (before reals imags) ⌝ }
 {
     match target {
         0 => turn_blocks(reals, imags, n, target, ones, upper, angle),
@@ -156,7 +157,7 @@ pub fn on_uppers(
     upper: u32,
     angle: Angle,
 ) -> Answer
-    ensures { λ r. ⌜ Does (kernel (pairGate (upperRule upper angle) most (now (numbers .entry))) n target controls (buffers (now (reals .entry)) (now (imags .entry)))) r (buffers (now (reals .exit)) (now (imags .exit))) ⌝ }
+    ensures { λ r. ⌜ Does (kernel (pairGate (upperRule upper angle) most (now (numbers .entry))) n target controls (before reals imags)) r (after reals imags) ⌝ }
 {
     let answer = state::judge(reals, imags, n, target, controls, most, numbers);
     if let Answer::Taken = answer {

@@ -1,0 +1,16 @@
+-- What two lent buffers hold: when a call begins, when it ends, and where it stands. Contracts say it by these words. Definitions only. Assumes nothing.
+use mathlib.Core.List.{List}
+use denote.Ref.{RefT, now}
+use denote.Triple.Both.{Both}
+use lib.Ieee.{Float}
+use Rattle.book.specs.Answers.{Buffers, buffers}
+
+abbrev pub before : {X Y : Type 0} → Both (RefT (List Float)) X → Both (RefT (List Float)) Y → Buffers
+before reals imags = buffers (now (reals .entry)) (now (imags .entry))
+
+abbrev pub after : {X Y : Type 0} → Both X (RefT (List Float)) → Both Y (RefT (List Float)) → Buffers
+after reals imags = buffers (now (reals .exit)) (now (imags .exit))
+
+-- in a `requires`, and between two steps
+abbrev pub here : RefT (List Float) → RefT (List Float) → Buffers
+here reals imags = buffers (now reals) (now imags)
