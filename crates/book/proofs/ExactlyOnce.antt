@@ -13,14 +13,17 @@ use borrow.Author.Tests.{lt-ltb, le-ltb, eq-eqb, ne-eqb, ltb-true, ltb-false}
 use lib.Dec.{ltb, eqb}
 use lib.ListN.{length, take, drop, getD, take-append-drop}
 use lib.Seq.{length-take-le}
-use Rattle.book.specs.Answers.{refused, again, said, Replied, Buffers}
-use Rattle.book.specs.ExactlyOnce.{FoundIn, done, Longest, In, Numbered, after, OneOf, AllOf, cons, seen, Given, ExactlyOnce}
-use Rattle.book.specs.Kernels.{badSize, mostQubits, badLength}
+use Rattle.book.specs.Answers.{refused, again, said, Replied, first, Buffers, outcomeOf, accepts}
+use Rattle.book.specs.Calls.{callOf, act}
+use Rattle.book.specs.ExactlyOnce.{FoundIn, done, Longest, In, Numbered, give, OneOf, AllOf, cons, seen, Given, ExactlyOnce, KeepsItsOwn}
+use Rattle.book.specs.Kernels.{badSize, mostQubits, badLength, sizeTests}
 use Rattle.book.specs.Records.{readRecord}
-use Rattle.book.specs.Sessions.{Session, session, start, act, accepts, Delivery, kept, takeRecord, takeRead, deliver, deliverAll}
+use Rattle.book.specs.Sessions.{Session, session, raised, Delivery, kept, counted, standing, takeRecord, takeRead, takeSized, deliver, deliverAll}
 use Rattle.book.specs.declared.Record.{Record}
+use Rattle.book.proofs.Calls.{sized-right}
 use Rattle.book.proofs.Found.{longest-same, longest-next, found-nil}
 use Rattle.book.proofs.Lengths.{act-fits}
+use Rattle.book.proofs.Refusals.{sizes-numbered, sizes-right}
 
 -- ---- the list of records
 
@@ -64,38 +67,32 @@ went true rest e h = (refl, h)
 went false rest e h = let z : _≡_ {A = ℕ} 0 1 = cc in absurd (omega arith)
 
 module _ (n : ℕ) where
-  after-start : (xs ys : List Record) (b e : Buffers) → after n b (xs ++ ys) ≡ some e → (mid : Buffers) × (after n b xs ≡ some mid) × (after n mid ys ≡ some e)
-  after-start [] ys b e h = (b, refl, h)
-  after-start (r ∷ xs) ys b e h =
-      let (t, rest) = went (accepts (act n (r .gate) b .says)) (after n (act n (r .gate) b .left) (xs ++ ys)) e h in
-      let m = after-start xs ys (act n (r .gate) b .left) e rest in
-      (m .0, ap (λ (t : Bool). cond t (after n (act n (r .gate) b .left) xs) none) t ∙ m .1, m .2)
+  give-start : (xs ys : List Record) (b e : Buffers) → give n b (xs ++ ys) ≡ some e → (mid : Buffers) × (give n b xs ≡ some mid) × (give n mid ys ≡ some e)
+  give-start [] ys b e h = (b, refl, h)
+  give-start (r ∷ xs) ys b e h =
+      let (t, rest) = went (accepts (act n (r .gate) b .says)) (give n (act n (r .gate) b .left) (xs ++ ys)) e h in
+      let m = give-start xs ys (act n (r .gate) b .left) e rest in
+      (m .0, ap (λ (t : Bool). cond t (give n (act n (r .gate) b .left) xs) none) t ∙ m .1, m .2)
 
-  after-one-more : (xs : List Record) (r : Record) (b mid : Buffers) → after n b xs ≡ some mid → accepts (act n (r .gate) mid .says) ≡ true
-      → after n b (xs ++ (r ∷ [])) ≡ some (act n (r .gate) mid .left)
-  after-one-more [] r b mid h a =
+  give-one-more : (xs : List Record) (r : Record) (b mid : Buffers) → give n b xs ≡ some mid → accepts (act n (r .gate) mid .says) ≡ true
+      → give n b (xs ++ (r ∷ [])) ≡ some (act n (r .gate) mid .left)
+  give-one-more [] r b mid h a =
       let p : b ≡ mid = cc h in
       subst (λ (m : Buffers). cond (accepts (act n (r .gate) m .says)) (some (act n (r .gate) m .left)) none ≡ some (act n (r .gate) mid .left)) (sym p) (rw a)
-  after-one-more (y ∷ xs) r b mid h a =
-      let (t, rest) = went (accepts (act n (y .gate) b .says)) (after n (act n (y .gate) b .left) xs) mid h in
-      ap (λ (t : Bool). cond t (after n (act n (y .gate) b .left) (xs ++ (r ∷ []))) none) t
-      ∙ after-one-more xs r (act n (y .gate) b .left) mid rest a
+  give-one-more (y ∷ xs) r b mid h a =
+      let (t, rest) = went (accepts (act n (y .gate) b .says)) (give n (act n (y .gate) b .left) xs) mid h in
+      ap (λ (t : Bool). cond t (give n (act n (y .gate) b .left) (xs ++ (r ∷ []))) none) t
+      ∙ give-one-more xs r (act n (y .gate) b .left) mid rest a
 
   -- where all are accepted, the next one is
   next-accepted : (rs : List Record) (r : Record) (k : ℕ) (b mid e : Buffers) → take (suc k) rs ≡ take k rs ++ (r ∷ [])
-      → after n b rs ≡ some e → after n b (take k rs) ≡ some mid → accepts (act n (r .gate) mid .says) ≡ true
+      → give n b rs ≡ some e → give n b (take k rs) ≡ some mid → accepts (act n (r .gate) mid .says) ≡ true
   next-accepted rs r k b mid e start all now =
-      let x = after-start (take (suc k) rs) (drop (suc k) rs) b e (ap (after n b) (take-append-drop (suc k) rs) ∙ all) in
-      let y = after-start (take k rs) (r ∷ []) b (x .0) (ap (after n b) (sym start) ∙ x .1) in
+      let x = give-start (take (suc k) rs) (drop (suc k) rs) b e (ap (give n b) (take-append-drop (suc k) rs) ∙ all) in
+      let y = give-start (take k rs) (r ∷ []) b (x .0) (ap (give n b) (sym start) ∙ x .1) in
       let same : y .0 ≡ mid = cc (y .1, now) in
       subst (λ (m : Buffers). accepts (act n (r .gate) m .says) ≡ true) same
       (went (accepts (act n (r .gate) (y .0) .says)) (some (act n (r .gate) (y .0) .left)) (x .0) (y .2) .0)
-
--- ---- a session that could be started
-
-started : (n own : ℕ) (t : Bool) → cond t none (some (session n own 0)) ≡ some (session n own 0) → t ≡ false
-started n own true e = let z : _≡_ {A = ℕ} 0 1 = cc in absurd (omega arith)
-started n own false e = refl
 
 -- ---- one delivery
 
@@ -103,84 +100,115 @@ module _ (n own : ℕ) (b₀ : Buffers) (rs : List Record) (g : Given n own b₀
   -- what holds between deliveries, with the records `xs` seen so far
   record Holds (xs : List Record) (s : Session) (b : Buffers) : Type 0 where
     k : ℕ
-    count : s ≡ session n own k
+    n-is : s .n ≡ n
+    own-is : s .number ≡ own
+    count : s .count ≡ k
     longest : Longest k rs xs
-    state : after n b₀ (take k rs) ≡ some b
+    state : give n b₀ (take k rs) ≡ some b
     fits : badLength (2 ^ n) b ≡ false
 
-  ready : (k : ℕ) (b : Buffers) (bytes : List ℕ) → badLength (2 ^ n) b ≡ false
-      → deliver (session n own k) b bytes ≡ takeRead (session n own k) b (readRecord bytes)
-  unfolding deliver
-  ready k b bytes h = rw (started n own (badSize mostQubits n) (g .fresh), h)
+  started : (t : Bool) → cond t none (some (session n own 0)) ≡ some (g .session) → (t ≡ false) × (g .session ≡ session n own 0)
+  started true e = let z : _≡_ {A = ℕ} 0 1 = cc in absurd (omega arith)
+  started false e = (refl, cc)
 
-  module _ (k : ℕ) (b : Buffers) (xs : List Record) (l : Longest k rs xs) (a : after n b₀ (take k rs) ≡ some b) (h : badLength (2 ^ n) b ≡ false) where
+  right : (b : Buffers) → badLength (2 ^ n) b ≡ false → first (sizeTests n b) ≡ 0
+  right b h = sizes-right n b (started (badSize mostQubits n) (g .fresh) .0) h
+
+  -- an accepted gate of a delivery is that of demand 2: 1 and 2 do not apply
+  acts : (b : Buffers) → badLength (2 ^ n) b ≡ false → (r : Record) → outcomeOf [] b (callOf n (r .gate) b) ≡ act n (r .gate) b
+  acts b h r = sym (sized-right b (callOf n (r .gate) b) (sizeTests n b) (sizes-numbered n b) (right b h))
+
+  module _ (s : Session) (b : Buffers) (xs : List Record) (h : Holds xs s b) where
+    k : ℕ
+    k = h .k
+
+    ready : (bytes : List ℕ) → deliver s b bytes ≡ takeRead s b bytes (readRecord bytes)
+    unfolding deliver
+    ready bytes = ap (takeSized s b bytes) (ap (λ (m : ℕ). first (sizeTests m b)) (h .n-is) ∙ right b (h .fits))
+
     -- a delivery that changes nothing, and makes no start longer
-    stays : (ys : List Record) (d : Delivery) (x : Replied) → d ≡ kept (session n own k) b x → Longest k rs ys → Holds ys (d .next) (d .left)
-    stays ys d x e m = rw e (record { k = k; count = refl; longest = m; state = a; fits = h })
+    stays : (ys : List Record) (d : Delivery) (x : Replied) → d ≡ kept s b x → Longest k rs ys → Holds ys (d .next) (d .left)
+    unfolding k
+    stays ys d x e m =
+        rw e (record { k = h .k; n-is = h .n-is; own-is = h .own-is; count = h .count; longest = m; state = h .state; fits = h .fits })
 
     module _ (r : Record) (p : Placed own 0 r rs) where
       -- the tests 9 and 11, that a record of the list passes
-      theirs : eqb (r .session) own ≡ true
-      theirs = eq-eqb (r .session) own (p .theirs)
+      theirs : eqb (r .session) (s .number) ≡ true
+      theirs = eq-eqb (r .session) (s .number) (p .theirs ∙ sym (h .own-is))
 
       not-full : eqb (r .number) 65535 ≡ false
       not-full = ne-eqb (r .number) 65535 (λ e. omega (arith, p .is, p .within, g .few))
 
       -- a record that is not the next: the longest start stays
       not-next : (r .number ≡ k → ⊥) → Longest k rs (xs ++ (r ∷ []))
+      unfolding k
       not-next other =
-          longest-same r l (λ room e. other (ap (λ (y : Record). y .number) (sym e) ∙ numbered-at own 0 rs k r (g .made) room ∙ zero-add k))
+          longest-same r (h .longest)
+          (λ room e. other (ap (λ (y : Record). y .number) (sym e) ∙ numbered-at own 0 rs (h .k) r (g .made) room ∙ zero-add (h .k)))
 
-      module _ (d : Delivery) (is : d ≡ takeRecord (session n own k) b r) where
-        repeated : r .number < k → Holds (xs ++ (r ∷ [])) (d .next) (d .left)
-        repeated m = stays (xs ++ (r ∷ [])) d again (is ∙ (rw (theirs, not-full, lt-ltb (r .number) k m))) (not-next (λ e. omega arith))
+      module _ (bytes : List ℕ) (d : Delivery) (is : d ≡ takeRecord s b bytes r (standing s r)) where
+        answered : (x : Option Replied) → standing s r ≡ x → d ≡ takeRecord s b bytes r x
+        answered x e = is ∙ ap (takeRecord s b bytes r) e
 
-        early : k < r .number → Holds (xs ++ (r ∷ [])) (d .next) (d .left)
+        repeated : r .number < s .count → Holds (xs ++ (r ∷ [])) (d .next) (d .left)
+        unfolding k
+        repeated m =
+            stays (xs ++ (r ∷ [])) d again (answered (some again) (rw (theirs, not-full, lt-ltb (r .number) (s .count) m)))
+            (not-next (λ e. omega (arith, h .count)))
+
+        early : s .count < r .number → Holds (xs ++ (r ∷ [])) (d .next) (d .left)
+        unfolding k
         early m =
             stays (xs ++ (r ∷ [])) d (said (refused 10))
-            (is ∙ (rw (theirs, not-full, le-ltb (r .number) k (omega arith), lt-ltb k (r .number) m)))
-            (not-next (λ e. omega arith))
+            (answered (some (said (refused 10))) (rw (theirs, not-full, le-ltb (r .number) (s .count) (omega arith), lt-ltb (s .count) (r .number) m)))
+            (not-next (λ e. omega (arith, h .count)))
 
-        next : r .number ≡ k → Holds (xs ++ (r ∷ [])) (d .next) (d .left)
+        next : r .number ≡ s .count → Holds (xs ++ (r ∷ [])) (d .next) (d .left)
         next m =
-            let i-is : p .i ≡ k = omega (arith, p .is) in
-            let start : take (suc k) rs ≡ take k rs ++ (r ∷ []) = subst (λ (j : ℕ). take (suc j) rs ≡ take j rs ++ (r ∷ [])) i-is (p .start) in
-            let took : accepts (act n (r .gate) b .says) ≡ true = next-accepted n rs r k b₀ b (g .last) start (g .accepted) a in
-            let made : d ≡ record { next = session n own (k + 1); says = said (act n (r .gate) b .says); left = act n (r .gate) b .left } =
-            is ∙ (rw (theirs, not-full, le-ltb (r .number) k (omega arith), le-ltb k (r .number) (omega arith), took)) in
+            let i-is : p .i ≡ h .k = omega (arith, p .is, h .count) in
+            let start : take (suc (h .k)) rs ≡ take (h .k) rs ++ (r ∷ []) = subst (λ (j : ℕ). take (suc j) rs ≡ take j rs ++ (r ∷ [])) i-is (p .start) in
+            let took : accepts (act n (r .gate) b .says) ≡ true = next-accepted n rs r (h .k) b₀ b (g .last) start (g .accepted) (h .state) in
+            let does : outcomeOf [] b (callOf (s .n) (r .gate) b) ≡ act n (r .gate) b =
+            ap (λ (m : ℕ). outcomeOf [] b (callOf m (r .gate) b)) (h .n-is) ∙ acts b (h .fits) r in
+            let goes : standing s r ≡ none =
+            rw (theirs, not-full, le-ltb (r .number) (s .count) (omega arith), le-ltb (s .count) (r .number) (omega arith)) in
+            let made : d ≡ record { next = raised s bytes; says = said (act n (r .gate) b .says); left = act n (r .gate) b .left } =
+            answered none goes ∙ ap (counted s b bytes) does ∙ rw took in
             rw made
             (record {
-              k = k + 1;
-              count = refl;
-              longest = longest-next r l (omega (arith, p .within)) start;
-              state = rw (add-one, start) (after-one-more n (take k rs) r b₀ b a took);
-              fits = act-fits n b h (r .gate);
+              k = h .k + 1;
+              n-is = h .n-is;
+              own-is = h .own-is;
+              count = omega (arith, h .count);
+              longest = longest-next r (h .longest) (omega (arith, p .within)) start;
+              state = rw (add-one, start) (give-one-more n (take (h .k) rs) r b₀ b (h .state) took);
+              fits = act-fits n b (h .fits) (r .gate);
             })
 
         one-record : Holds (xs ++ (r ∷ [])) (d .next) (d .left)
-        one-record = by (ltb (r .number) k) refl (ltb k (r .number)) refl
+        one-record = by (ltb (r .number) (s .count)) refl (ltb (s .count) (r .number)) refl
           where
-            by : (t : Bool) → ltb (r .number) k ≡ t → (u : Bool) → ltb k (r .number) ≡ u → Holds (xs ++ (r ∷ [])) (d .next) (d .left)
+            by : (t : Bool) → ltb (r .number) (s .count) ≡ t → (u : Bool) → ltb (s .count) (r .number) ≡ u → Holds (xs ++ (r ∷ [])) (d .next) (d .left)
             by true e u f = repeated (ltb-true _ _ e)
             by false e true f = early (ltb-true _ _ f)
-            by false e false f = next (omega (arith, ltb-false (r .number) k e, ltb-false k (r .number) f))
+            by false e false f = next (omega (arith, ltb-false (r .number) (s .count) e, ltb-false (s .count) (r .number) f))
 
-    one : (bytes : List ℕ) → OneOf rs bytes → (d : Delivery) → d ≡ takeRead (session n own k) b (readRecord bytes)
+    one : (bytes : List ℕ) → OneOf rs bytes → (d : Delivery) → d ≡ takeRead s b bytes (readRecord bytes)
         → Holds (xs ++ cons (readRecord bytes) []) (d .next) (d .left)
+    unfolding k
     one bytes (inl e) d is =
         subst (λ (x : Option Record). Holds (xs ++ cons x []) (d .next) (d .left)) (sym e)
         (subst (λ (ys : List Record). Holds ys (d .next) (d .left)) (sym (append-nil xs))
-        (stays xs d (said (refused 8)) (is ∙ ap (takeRead (session n own k) b) e) l))
+        (stays xs d (said (refused 8)) (is ∙ ap (takeRead s b bytes) e) (h .longest)))
     one bytes (inr w) d is =
         let (r, member, e) = w in
         subst (λ (x : Option Record). Holds (xs ++ cons x []) (d .next) (d .left)) (sym e)
-        (one-record r (placed own 0 rs r (g .made) member) d (is ∙ ap (takeRead (session n own k) b) e))
+        (one-record r (placed own 0 rs r (g .made) member) bytes d (is ∙ ap (takeRead s b bytes) e))
 
   step : (xs : List Record) (s : Session) (b : Buffers) (bytes : List ℕ) → OneOf rs bytes → Holds xs s b
       → Holds (xs ++ cons (readRecord bytes) []) (deliver s b bytes .next) (deliver s b bytes .left)
-  step xs s b bytes w h =
-      subst (λ (t : Session). Holds (xs ++ cons (readRecord bytes) []) (deliver t b bytes .next) (deliver t b bytes .left)) (sym (h .count))
-      (one (h .k) b xs (h .longest) (h .state) (h .fits) bytes w (deliver (session n own (h .k)) b bytes) (ready (h .k) b bytes (h .fits)))
+  step xs s b bytes w h = one s b xs h bytes w (deliver s b bytes) (ready s b xs h bytes)
 
   -- ---- all deliveries
 
@@ -199,11 +227,14 @@ module _ (n own : ℕ) (b₀ : Buffers) (rs : List Record) (g : Given n own b₀
       (append-assoc xs (cons (readRecord bytes) []) (seen ds) ∙ ap (λ (l : List Record). xs ++ l) (cons-append (readRecord bytes) (seen ds)))
       (steps ds (xs ++ cons (readRecord bytes) []) (d .next) (d .left) (w .1) (step xs s b bytes (w .0) h))
 
-  fresh : Holds [] (session n own 0) b₀
+  fresh : Holds [] (g .session) b₀
   fresh =
+      let is = started (badSize mostQubits n) (g .fresh) .1 in
       record {
         k = 0;
-        count = refl;
+        n-is = ap (λ (s : Session). s .n) is;
+        own-is = ap (λ (s : Session). s .number) is;
+        count = ap (λ (s : Session). s .count) is;
         longest = record { within = omega arith; found = done; most = none-found };
         state = refl;
         fits = g .fits;
@@ -222,6 +253,33 @@ seen-append (d ∷ ds) bytes = by (readRecord d) (seen ds) (cons (readRecord byt
 
 pub exactly-once : ExactlyOnce
 exactly-once n own b rs g ds bytes all one =
-    let bench = deliverAll (record { session = session n own 0; state = b }) ds in
-    let h = step n own b rs g (seen ds) (bench .session) (bench .state) bytes one (steps n own b rs g ds [] (session n own 0) b all (fresh n own b rs g)) in
-    rw (← seen-append) (record { k = h .k; count = h .count; longest = h .longest; state = h .state })
+    let bench = deliverAll (record { session = g .session; state = b }) ds in
+    let before = steps n own b rs g ds [] (g .session) b all (fresh n own b rs g) in
+    let h = step n own b rs g (seen ds) (bench .session) (bench .state) bytes one before in
+    rw (← seen-append) (record { k = h .k; counts = h .count; longest = h .longest; state = h .state })
+
+-- ---- a delivery keeps n and the session's number
+
+abbrev Own : Session → Delivery → Type 0
+Own s d = (d .next .n ≡ s .n) × (d .next .number ≡ s .number)
+
+module _ (s : Session) (b : Buffers) (bytes : List ℕ) where
+  counted-own : (t : Bool) (x y : Delivery) → Own s x → Own s y → Own s (cond t x y)
+  counted-own true x y p q = p
+  counted-own false x y p q = q
+
+  record-own : (r : Record) (x : Option Replied) → Own s (takeRecord s b bytes r x)
+  record-own r (some x) = (refl, refl)
+  record-own r none = let o = outcomeOf [] b (callOf (s .n) (r .gate) b) in counted-own (accepts (o .says)) _ _ (refl, refl) (refl, refl)
+
+  read-own : (x : Option Record) → Own s (takeRead s b bytes x)
+  read-own (some r) = record-own r (standing s r)
+  read-own none = (refl, refl)
+
+  sized-own : (k : ℕ) → Own s (takeSized s b bytes k)
+  sized-own zero = read-own (readRecord bytes)
+  sized-own (suc k) = (refl, refl)
+
+pub keeps-its-own : KeepsItsOwn
+unfolding deliver
+keeps-its-own s b bytes = sized-own s b bytes (first (sizeTests (s .n) b))

@@ -8,11 +8,12 @@ use lib.Dec.{T, eqb, eqb→eq}
 use lib.Ieee.{add, sub, mul, div, le, lt, eq}
 use lib.Ieee.Fits.{and-l, and-r}
 use Rattle.numbers.specs.Fused.{fused, root}
+use Rattle.book.specs.Answers.{first}
 use Rattle.book.specs.Examples.{Example, Hold, twelve}
-use Rattle.book.specs.Kernels.{kernelRefusal, swapRefusal, swapped}
-use Rattle.book.specs.Measuring.{measured, measureRefusal, probability, summed}
+use Rattle.book.specs.Kernels.{sizeTests, seatTests, swapped}
+use Rattle.book.specs.Measuring.{measured, probability, summed}
 use Rattle.book.specs.Records.{listed}
-use Rattle.book.specs.Sessions.{act, deliver}
+use Rattle.book.specs.Sessions.{deliver}
 use Rattle.book.specs.State.{tabulate, held, chosen, choice, placed, onPairs}
 
 abbrev alike : List ℕ → List ℕ → Bool
@@ -39,5 +40,5 @@ right-hold (e ∷ es) w =
     (alike-same (e .gives) (e .paper) (and-l same (right es) w), right-hold es (and-r same (right es) w))
 
 pub all-twelve : Hold twelve
-unfolding twelve fused root kernelRefusal swapRefusal swapped measured measureRefusal probability summed listed act deliver tabulate held chosen choice placed onPairs le lt eq div add sub mul ones
+unfolding twelve fused root first sizeTests seatTests swapped measured probability summed listed deliver tabulate held chosen choice placed onPairs le lt eq div add sub mul ones
 all-twelve = right-hold twelve tt

@@ -8,13 +8,13 @@ use native.Mathlib.Omega.{arith}
 use lib.Count.{ones}
 use lib.Ieee.{ofInt, ofBits, add, sub, mul, div, neg, le, lt, eq}
 use Rattle.numbers.specs.Fused.{fused, root}
-use Rattle.book.specs.Answers.{Buffers}
-use Rattle.book.specs.Examples.{real, controls, whole, ofBits64}
-use Rattle.book.specs.ExactlyOnce.{after, Given}
-use Rattle.book.specs.Kernels.{uncontrolled, kernelRefusal, swapRefusal, swapped, bitFlipRefusal}
-use Rattle.book.specs.Measuring.{measured, measureRefusal, probability, summed}
-use Rattle.book.specs.Sessions.{session, act}
-use Rattle.book.specs.State.{tabulate, held, chosen, choice, placed, onPairs}
+use Rattle.book.specs.Answers.{first, Buffers}
+use Rattle.book.specs.Examples.{real, whole, ofBits64}
+use Rattle.book.specs.ExactlyOnce.{give, Given}
+use Rattle.book.specs.Kernels.{sizeTests, seatTests, swapped}
+use Rattle.book.specs.Measuring.{measured, probability, summed}
+use Rattle.book.specs.Sessions.{session}
+use Rattle.book.specs.State.{tabulate, held, controlled, uncontrolled, chosen, choice, placed, onPairs}
 use Rattle.book.specs.declared.Angle.{Angle}
 use Rattle.book.specs.declared.Angles.{Angles}
 use Rattle.book.specs.declared.Gate.{Gate}
@@ -41,14 +41,14 @@ angles =
 abbrev gates : List Gate
 gates =
     H 0 uncontrolled
-    ∷ X 1 (controls 1)
-    ∷ Y 0 (controls 2)
+    ∷ X 1 (controlled 1)
+    ∷ Y 0 (controlled 2)
     ∷ Z 1 uncontrolled
-    ∷ P 1 (controls 1) angle
-    ∷ Rx 0 (controls 2) angle
+    ∷ P 1 (controlled 1) angle
+    ∷ Rx 0 (controlled 2) angle
     ∷ Ry 1 uncontrolled angle
-    ∷ Rz 0 (controls 2) angle
-    ∷ U 1 (controls 1) angles
+    ∷ Rz 0 (controlled 2) angle
+    ∷ U 1 (controlled 1) angles
     ∷ Swap 0 1
     ∷ BitFlip 0 (record { prob = whole 1; draw = whole 0 })
     ∷ Measure 1 (record { outcome = 1; reset = 1 })
@@ -71,13 +71,14 @@ orElse b (some b′) = b′
 orElse b none = b
 
 pub given : Given 2 7 before records
-unfolding act fused root kernelRefusal swapRefusal swapped bitFlipRefusal measured measureRefusal probability summed tabulate held chosen choice placed onPairs le lt eq div add sub mul neg ones ofInt ofBits
+unfolding fused root first sizeTests seatTests swapped measured probability summed tabulate held chosen choice placed onPairs le lt eq div add sub mul neg ones ofInt ofBits
 given =
     record {
+      session = session 2 7 0;
       fresh = refl;
       fits = refl;
       few = omega arith;
       made = (refl, refl, (refl, refl, (refl, refl, (refl, refl, (refl, refl, (refl, refl, (refl, refl, (refl, refl, (refl, refl, (refl, refl, (refl, refl, (refl, refl, tt))))))))))));
-      last = orElse before (after 2 before records);
+      last = orElse before (give 2 before records);
       accepted = refl;
     }

@@ -2,6 +2,7 @@
 -- the index with two bits exchanged, with them exchanged once more, is the index. Assumes nothing.
 use Prim.Native.Nat.{ℕ, zero, suc, _+_, _-_, _*_, _^_, _<_}
 use mathlib.Core.Bool.{Bool, true, false}
+use mathlib.Core.List.{List, [], _++_}
 use mathlib.Core.Logic.{⊎-elim}
 use mathlib.Core.Path.{_≡_, refl, sym, ap, ap₂, _∙_, subst}
 use native.Mathlib.Omega.{arith}
@@ -9,16 +10,17 @@ use borrow.Author.Tests.{eqb-false, leb-false}
 use lib.Bits.{bitAnd, and-comm}
 use lib.Dec.{eqb, leb}
 use lib.ListN.{length}
-use Rattle.book.specs.Answers.{Buffers}
-use Rattle.book.specs.Gates.{PairGate, xGate}
-use Rattle.book.specs.Kernels.{badLength, outside, kernel, kernelTests, kernelRefusal, exchanged, swap, swapTests, swapRefusal, swapped}
+use Rattle.book.specs.Answers.{Test, first, Buffers, Call, unless, outcomeOf}
+use Rattle.book.specs.Calls.{any}
+use Rattle.book.specs.Gates.{xRule}
+use Rattle.book.specs.Kernels.{badLength, sizeTests, outside, seatTests, pairCall, exchanged, swapCall, swapped}
 use Rattle.book.specs.State.{State, at, held, bit, chosen, Choice, half, choice, pair, placeBy, placed, onPairs}
-use Rattle.book.specs.Twice.{Undoes, XTwice, SwapTwice}
+use Rattle.book.specs.Twice.{XTwice, SwapTwice}
 use Rattle.book.specs.declared.Controls.{Controls}
 use Rattle.book.specs.declared.Pair.{Pair}
 use Rattle.book.proofs.Bits.{bit-lt, halves, bit-up, bit-down, down-up, bit-other, up-lt, and-add}
-use Rattle.book.proofs.Lengths.{held-fits, pairs-fit}
-use Rattle.book.proofs.Refusals.{clear, neither, right-lengths}
+use Rattle.book.proofs.Lengths.{pairs-fit, swapped-fits}
+use Rattle.book.proofs.Refusals.{clear, clear-start, neither, right-lengths, same-sizes}
 use Rattle.book.proofs.Tables.{at-held, held-only}
 
 -- ---- both places of a pair are chosen, or none
@@ -92,41 +94,66 @@ module _ (rule : Pair → Pair) (undoes : (p : Pair) → rule (rule p) ≡ p) (n
   unfolding onPairs once
   pairs-undone lr li = sym (held-only (2 ^ n) (placed rule t c (at (held (2 ^ n) once))) b lr li restored)
 
+-- ---- a call that was accepted once is accepted again, and the second time undoes the first
+
+-- what a call does, and what it does twice
+abbrev doing : ℕ → (Buffers → Call) → Buffers → Buffers
+doing n of b = outcomeOf (sizeTests n b) b (of b) .left
+
+abbrev pub Undone : ℕ → (Buffers → Call) → Type 0
+Undone n of = (b : Buffers) → doing n of (doing n of b) ≡ b
+
+module _ (n : ℕ) (of : Buffers → Call) (same : (b b′ : Buffers) → of b .tests ≡ of b′ .tests) where
+  abbrev refusal : Buffers → ℕ
+  refusal b = first (sizeTests n b ++ of b .tests)
+
+  -- a refusal looks at the buffers' lengths alone
+  same-refusal : (b b′ : Buffers) → badLength (2 ^ n) b ≡ badLength (2 ^ n) b′ → refusal b ≡ refusal b′
+  same-refusal b b′ e = ap₂ (λ ts us. first (ts ++ us)) (same-sizes n b b′ e) (same b b′)
+
+  call-undone : (b : Buffers) → (refusal b ≡ 0 → (badLength (2 ^ n) b ≡ false) × (badLength (2 ^ n) (of b .left) ≡ false) × (of (of b .left) .left ≡ b))
+      → doing n of (doing n of b) ≡ b
+  call-undone b undoes = by (refusal b) refl
+    where
+      by : (k : ℕ) → refusal b ≡ k → doing n of (doing n of b) ≡ b
+      by (suc k) e =
+          let once : doing n of b ≡ b = ap (λ (j : ℕ). unless j b (of b) .left) e in
+          ap (doing n of) once ∙ once
+      by zero e =
+          let (fits, fits′, back) = undoes e in
+          let b′ = of b .left in
+          let once : doing n of b ≡ b′ = ap (λ (j : ℕ). unless j b (of b) .left) e in
+          let again : refusal b′ ≡ 0 = same-refusal b′ b (fits′ ∙ sym fits) ∙ e in
+          ap (doing n of) once ∙ ap (λ (j : ℕ). unless j b′ (of b′) .left) again ∙ back
+
 -- what an accepted call of a kernel has shown
-pub record Accepted (g : PairGate) (n t : ℕ) (c : Controls) (b : Buffers) : Type 0 where
+pub record Accepted (n t : ℕ) (c : Controls) (b : Buffers) : Type 0 where
   pub fits : badLength (2 ^ n) b ≡ false
   pub small : t < n
   pub free : bit t (c .ones) ≡ 0
 
-accepted : (g : PairGate) (n t : ℕ) (c : Controls) (b : Buffers) → kernelRefusal g n t c b ≡ 0 → Accepted g n t c b
-unfolding kernelRefusal
-accepted g n t c b e =
-    let (_, (fits, (qubit, (other, _)))) = clear (kernelTests g n t c b) tt e in
+accepted : (rule : Pair → Pair) (most : ℕ) (own : List Test) (n t : ℕ) (c : Controls) (b : Buffers)
+    → first (sizeTests n b ++ pairCall rule most own n t c b .tests) ≡ 0 → Accepted n t c b
+unfolding sizeTests seatTests
+accepted rule most own n t c b e =
+    let (sizes, behind) = clear-start (sizeTests n b) _ tt e in
+    let ((qubit, (other, _)), _) = clear-start (seatTests most n t c) own tt behind in
     record {
-      fits = fits;
+      fits = sizes .1 .0;
       small = leb-false n t (neither (leb n t) (outside n c) qubit .0);
       free = let ne : bit t (c .ones) ≡ 1 → ⊥ = eqb-false (bit t (c .ones)) 1 other in omega (arith, bit-lt t (c .ones), ne);
     }
 
--- a refusal looks at the buffers' lengths alone
-same-refusal : (g : PairGate) (n t : ℕ) (c : Controls) (b b′ : Buffers) → badLength (2 ^ n) b ≡ badLength (2 ^ n) b′ → kernelRefusal g n t c b ≡ kernelRefusal g n t c b′
-unfolding kernelRefusal
-same-refusal g n t c b b′ e = rw e
-
-pub undone : (g : PairGate) → ((p : Pair) → g .rule (g .rule p) ≡ p) → Undoes g
-undone g undoes n t c b = by (kernelRefusal g n t c b) refl
-  where
-    by : (k : ℕ) → kernelRefusal g n t c b ≡ k → kernel g n t c (kernel g n t c b .left) .left ≡ b
-    by (suc k) e = rw (e, e)
-    by zero e =
-        let ok = accepted g n t c b e in
-        let b′ = onPairs (g .rule) n t c b in
-        let same : kernelRefusal g n t c b′ ≡ 0 = same-refusal g n t c b′ b (pairs-fit (g .rule) n t c b ∙ sym (ok .fits)) ∙ e in
-        let (lr, li) = right-lengths (2 ^ n) b (ok .fits) in
-        rw (e, same) (pairs-undone (g .rule) undoes n t c (ok .small) (ok .free) b lr li)
+pub undone : (rule : Pair → Pair) (most : ℕ) (own : List Test) → ((p : Pair) → rule (rule p) ≡ p) → (n t : ℕ) (c : Controls) → Undone n (pairCall rule most own n t c)
+undone rule most own undoes n t c b =
+    call-undone n (pairCall rule most own n t c) (λ _ _. refl) b
+    (λ e.
+    let ok = accepted rule most own n t c b e in
+    let (lr, li) = right-lengths (2 ^ n) b (ok .fits) in
+    (ok .fits, pairs-fit rule n t c b, pairs-undone rule undoes n t c (ok .small) (ok .free) b lr li))
 
 pub x-twice : XTwice
-x-twice = undone xGate (λ p. refl)
+x-twice t c n b = undone xRule any [] (λ p. refl) n t c b
 
 -- ---- SWAP
 
@@ -189,28 +216,17 @@ swaps-undone n t0 t1 b q0 q1 lr li =
     let x = exchange n t0 t1 i q0 q1 il in
     sym (at-held (2 ^ n) once (exchanged t0 t1 i) (x .within) ∙ ap (at b) (x .back))))
 
-swap-accepted : (n t0 t1 : ℕ) (b : Buffers) → swapRefusal n t0 t1 b ≡ 0 → (badLength (2 ^ n) b ≡ false) × (t0 < n) × (t1 < n)
-unfolding swapRefusal
+swap-accepted : (n t0 t1 : ℕ) (b : Buffers) → first (sizeTests n b ++ swapCall n t0 t1 b .tests) ≡ 0 → (badLength (2 ^ n) b ≡ false) × (t0 < n) × (t1 < n)
+unfolding sizeTests
 swap-accepted n t0 t1 b e =
-    let (_, (fits, (qubits, _))) = clear (swapTests n t0 t1 b) tt e in
-    let (q0, q1) = neither (leb n t0) (leb n t1) qubits in
-    (fits, leb-false n t0 q0, leb-false n t1 q1)
-
-swap-same-refusal : (n t0 t1 : ℕ) (b b′ : Buffers) → badLength (2 ^ n) b ≡ badLength (2 ^ n) b′ → swapRefusal n t0 t1 b ≡ swapRefusal n t0 t1 b′
-unfolding swapRefusal
-swap-same-refusal n t0 t1 b b′ e = rw e
-
-swapped-fits : (n t0 t1 : ℕ) (b : Buffers) → badLength (2 ^ n) (swapped n t0 t1 b) ≡ false
-unfolding swapped
-swapped-fits n t0 t1 b = held-fits n _
+    let (sizes, behind) = clear-start (sizeTests n b) _ tt e in
+    let (q0, q1) = neither (leb n t0) (leb n t1) (clear (swapCall n t0 t1 b .tests) tt behind .0) in
+    (sizes .1 .0, leb-false n t0 q0, leb-false n t1 q1)
 
 pub swap-twice : SwapTwice
-swap-twice n t0 t1 b = by (swapRefusal n t0 t1 b) refl
-  where
-    by : (k : ℕ) → swapRefusal n t0 t1 b ≡ k → swap n t0 t1 (swap n t0 t1 b .left) .left ≡ b
-    by (suc k) e = rw (e, e)
-    by zero e =
-        let (fits, q0, q1) = swap-accepted n t0 t1 b e in
-        let same : swapRefusal n t0 t1 (swapped n t0 t1 b) ≡ 0 = swap-same-refusal n t0 t1 (swapped n t0 t1 b) b (swapped-fits n t0 t1 b ∙ sym fits) ∙ e in
-        let (lr, li) = right-lengths (2 ^ n) b fits in
-        rw (e, same) (swaps-undone n t0 t1 b q0 q1 lr li)
+swap-twice t0 t1 n b =
+    call-undone n (swapCall n t0 t1) (λ _ _. refl) b
+    (λ e.
+    let (fits, q0, q1) = swap-accepted n t0 t1 b e in
+    let (lr, li) = right-lengths (2 ^ n) b fits in
+    (fits, swapped-fits n t0 t1 b, swaps-undone n t0 t1 b q0 q1 lr li))

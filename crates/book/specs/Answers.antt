@@ -1,13 +1,16 @@
 -- The refusal numbers, what a call says, and which refusal is given where several apply. Definitions only. Assumes nothing.
 use Prim.Native.Nat.{ℕ, zero, suc}
-use mathlib.Core.Bool.{Bool, cond}
-use mathlib.Core.List.{List, [], _∷_}
+use mathlib.Core.Bool.{Bool, true, false, cond}
+use mathlib.Core.List.{List, [], _∷_, _++_}
+use mathlib.Core.Option.{Option, some, none}
 use mathlib.Core.Path.{_≡_}
 use lib.Ieee.{Float}
 use Rattle.book.specs.declared.Refusal.{Refusal}
 use Rattle.book.specs.declared.Refusal.the-variants.{Size, Length, Qubit, Same, Form, Number, Chance, Record, Session, Early, Full, Room}
 use Rattle.book.specs.declared.Answer.{Answer}
 use Rattle.book.specs.declared.Answer.the-variants.{Taken, Value, Refused}
+use Rattle.book.specs.declared.Reply.{Reply}
+use Rattle.book.specs.declared.Reply.the-variants.{Taken as Taken′, Value as Value′, Again, Refused as Refused′}
 
 -- 01's table
 abbrev pub numberOf : Refusal → ℕ
@@ -40,6 +43,14 @@ pub data Replied : Type 0 where
   again : Replied
   said : Said → Replied
 
+abbrev pub replies : Reply → Replied
+replies Taken′ = said taken
+replies (Value′ v) = said (value v)
+replies Again = again
+replies (Refused′ r) = said (refused (numberOf r))
+
+-- ---- tests
+
 -- A test of the table: where it applies, the refusal has this number.
 pub record Test : Type 0 where
   pub applies : Bool
@@ -50,9 +61,11 @@ b ⇒ k = record { applies = b; number = k }
 
 infix 68 _⇒_
 -- the first that applies in this order, and 0 for none
-abbrev pub first : List Test → ℕ
+unfoldable pub first : List Test → ℕ
 first [] = 0
 first (t ∷ ts) = cond (t .applies) (t .number) (first ts)
+
+-- ---- calls
 
 -- two lent buffers, real and imaginary
 pub record Buffers : Type 0 where
@@ -67,13 +80,33 @@ pub record Outcome : Type 0 where
   pub says : Said
   pub left : Buffers
 
-abbrev pub outcome : Said → Buffers → Outcome
-outcome x b = record { says = x; left = b }
+-- A call: its own tests, in 01's order, behind those of the size; and where none applies the value that it answers, if it has one, and what it leaves.
+pub record Call : Type 0 where
+  pub tests : List Test
+  pub answer : Option ℕ
+  pub left : Buffers
+
+abbrev pub call : List Test → Option ℕ → Buffers → Call
+call tests v left = record { tests = tests; answer = v; left = left }
+
+abbrev pub accepted : Option ℕ → Said
+accepted none = taken
+accepted (some v) = value v
 
 -- A refusal returns its number, and the buffers keep what they held. With none the call does its work.
-abbrev pub unless : ℕ → Buffers → Outcome → Outcome
-unless zero before work = work
-unless (suc k) before work = outcome (refused (suc k)) before
+abbrev pub unless : ℕ → Buffers → Call → Outcome
+unless zero before c = record { says = accepted (c .answer); left = c .left }
+unless (suc k) before c = record { says = refused (suc k); left = before }
+
+-- the first of the tests of the size and of the call's own
+abbrev pub outcomeOf : List Test → Buffers → Call → Outcome
+outcomeOf sizes before c = unless (first (sizes ++ c .tests)) before c
+
+-- whether a call was taken
+abbrev pub accepts : Said → Bool
+accepts taken = true
+accepts (value v) = true
+accepts (refused k) = false
 
 -- A call's whole contract: its answer and every place of its buffers are those of the outcome.
 pub record Does (o : Outcome) (answer : Answer) (after : Buffers) : Type 0 where

@@ -7,10 +7,11 @@ use mathlib.Core.Logic.{_⊎_}
 use mathlib.Core.Option.{Option, some, none}
 use mathlib.Core.Path.{_≡_}
 use lib.ListN.{length, take}
-use Rattle.book.specs.Answers.{Buffers}
+use Rattle.book.specs.Answers.{Buffers, accepts}
+use Rattle.book.specs.Calls.{act}
 use Rattle.book.specs.Kernels.{badLength}
 use Rattle.book.specs.Records.{readRecord}
-use Rattle.book.specs.Sessions.{session, start, act, accepts, Delivery, deliver, deliverAll}
+use Rattle.book.specs.Sessions.{Session, start, deliver, deliverAll}
 use Rattle.book.specs.declared.Record.{Record}
 
 -- ---- the longest start of a list found in order
@@ -39,11 +40,11 @@ Numbered own k [] = Unit
 Numbered own k (r ∷ rs) = (r .session ≡ own) × (r .number ≡ k) × Numbered own (k + 1) rs
 
 -- what records give, applied once each in order: nothing where one is refused
-abbrev pub after : ℕ → Buffers → List Record → Option Buffers
-after n b [] = some b
-after n b (r ∷ rs) =
+abbrev pub give : ℕ → Buffers → List Record → Option Buffers
+give n b [] = some b
+give n b (r ∷ rs) =
     let o = act n (r .gate) b in
-    cond (accepts (o .says)) (after n (o .left) rs) none
+    cond (accepts (o .says)) (give n (o .left) rs) none
 
 -- ---- the deliveries
 
@@ -68,25 +69,33 @@ seen (bytes ∷ more) = cons (readRecord bytes) (seen more)
 
 -- A fresh session, buffers of its length, and up to 65,535 records made for it, numbered from 0, which applied once each in order are all accepted.
 pub record Given (n own : ℕ) (b : Buffers) (rs : List Record) : Type 0 where
-  pub fresh : start n own ≡ some (session n own 0)
+  pub session : Session
+  pub fresh : start n own ≡ some session
   pub fits : badLength (2 ^ n) b ≡ false
   pub few : length rs ≤ 65535
   pub made : Numbered own 0 rs
   pub last : Buffers
-  pub accepted : after n b rs ≡ some last
+  pub accepted : give n b rs ≡ some last
 
 -- After a delivery: the buffers are what the first k records give, once each, and the answer's count is k,
 -- the length of the longest start of the list found in order among the records delivered so far.
-pub record Once (n own : ℕ) (b : Buffers) (rs so-far : List Record) (d : Delivery) : Type 0 where
+pub record Once (n : ℕ) (b : Buffers) (rs so-far : List Record) (count : ℕ) (left : Buffers) : Type 0 where
   pub k : ℕ
-  pub count : d .next ≡ session n own k
+  pub counts : count ≡ k
   pub longest : Longest k rs so-far
-  pub state : after n b (take k rs) ≡ some (d .left)
+  pub state : give n b (take k rs) ≡ some left
 
 -- Whatever was delivered before, `ds`, and whatever comes now, `bytes`.
 abbrev pub ExactlyOnce : Type 0
 ExactlyOnce =
-    (n own : ℕ) (b : Buffers) (rs : List Record) → Given n own b rs
+    (n own : ℕ) (b : Buffers) (rs : List Record) (given : Given n own b rs)
     → (ds : List (List ℕ)) (bytes : List ℕ) → AllOf rs ds → OneOf rs bytes
-    → let bench = deliverAll (record { session = session n own 0; state = b }) ds in
-    Once n own b rs (seen (ds ++ (bytes ∷ []))) (deliver (bench .session) (bench .state) bytes)
+    → let bench = deliverAll (record { session = given .session; state = b }) ds in
+    let d = deliver (bench .session) (bench .state) bytes in
+    Once n b rs (seen (ds ++ (bytes ∷ []))) (d .next .count) (d .left)
+
+-- A delivery keeps n and the session's number.
+abbrev pub KeepsItsOwn : Type 0
+KeepsItsOwn =
+    (s : Session) (b : Buffers) (bytes : List ℕ)
+    → (deliver s b bytes .next .n ≡ s .n) × (deliver s b bytes .next .number ≡ s .number)

@@ -8,13 +8,12 @@ use lib.IntN.{pos}
 use lib.ListN.{take}
 use Rattle.numbers.specs.Fused.{root}
 use Rattle.book.specs.Answers.{Buffers, buffers, Outcome}
-use Rattle.book.specs.Gates.{F, xGate, yGate, hGate}
-use Rattle.book.specs.Kernels.{kernel, swap, uncontrolled}
-use Rattle.book.specs.Measuring.{measure}
+use Rattle.book.specs.Calls.{act}
+use Rattle.book.specs.Gates.{F}
 use Rattle.book.specs.Records.{writeRecord}
 use Rattle.book.specs.Sessions.{Session, session, deliver}
-use Rattle.book.specs.declared.Controls.{Controls}
-use Rattle.book.specs.declared.Gate.the-variants.{X}
+use Rattle.book.specs.State.{controlled, uncontrolled}
+use Rattle.book.specs.declared.Gate.the-variants.{H, X, Y, Swap, Measure}
 use Rattle.book.specs.declared.Record.{Record}
 
 -- ---- how an example is written
@@ -54,9 +53,6 @@ reals o = bits (o .left .reals)
 abbrev pub imags : Outcome → List ℕ
 imags o = bits (o .left .imags)
 
-abbrev pub controls : ℕ → Controls
-controls mask = record { ones = mask }
-
 -- X on qubit 0 of session 7, numbered k
 abbrev pub xNumbered : ℕ → Record
 xNumbered k = record { session = 7; number = k; gate = X 0 uncontrolled }
@@ -72,13 +68,13 @@ abbrev pub eightReals : Buffers
 eightReals = real (1 ∷ 2 ∷ 3 ∷ 4 ∷ 5 ∷ 6 ∷ 7 ∷ 8 ∷ [])
 
 abbrev pub hTwice : Outcome
-hTwice = kernel hGate 1 0 uncontrolled (kernel hGate 1 0 uncontrolled (real (1 ∷ 0 ∷ [])) .left)
+hTwice = act 1 (H 0 uncontrolled) (act 1 (H 0 uncontrolled) (real (1 ∷ 0 ∷ [])) .left)
 
 abbrev pub halves : Buffers
 halves = buffers (ofBits64 0x3FE0000000000000 ∷ ofBits64 0x3FE0000000000000 ∷ []) (whole 0 ∷ whole 0 ∷ [])
 
 abbrev pub yOnOne : Outcome
-yOnOne = kernel yGate 1 0 uncontrolled (buffers (whole 1 ∷ whole 3 ∷ []) (whole 2 ∷ whole 4 ∷ []))
+yOnOne = act 1 (Y 0 uncontrolled) (buffers (whole 1 ∷ whole 3 ∷ []) (whole 2 ∷ whole 4 ∷ []))
 
 -- ---- the twelve
 
@@ -89,13 +85,13 @@ twelve =
     ∷ bitsOf (F (ofBits64 1) (ofBits64 0x3FE0000000000000) (whole 0)) is (0 ∷ [])
     ∷ bitsOf (F (ofBits64 1) (ofBits64 0x3FE8000000000000) (whole 0)) is (1 ∷ [])
     ∷ bitsOf (root binary64 (whole 2)) is (0x3FF6A09E667F3BCD ∷ [])
-    ∷ reals (kernel xGate 2 0 (controls 2) (real (1 ∷ 2 ∷ 3 ∷ 4 ∷ []))) is bits (map whole (1 ∷ 2 ∷ 4 ∷ 3 ∷ []))
-    ∷ reals (kernel xGate 3 2 (controls 1) eightReals) is bits (map whole (1 ∷ 6 ∷ 3 ∷ 8 ∷ 5 ∷ 2 ∷ 7 ∷ 4 ∷ []))
+    ∷ reals (act 2 (X 0 (controlled 2)) (real (1 ∷ 2 ∷ 3 ∷ 4 ∷ []))) is bits (map whole (1 ∷ 2 ∷ 4 ∷ 3 ∷ []))
+    ∷ reals (act 3 (X 2 (controlled 1)) eightReals) is bits (map whole (1 ∷ 6 ∷ 3 ∷ 8 ∷ 5 ∷ 2 ∷ 7 ∷ 4 ∷ []))
     ∷ (reals yOnOne ++ imags yOnOne) is bits (whole 4 ∷ minus 2 ∷ minus 3 ∷ whole 1 ∷ [])
     ∷ take 1 (reals hTwice) is (0x3FF0000000000001 ∷ [])
-    ∷ reals (swap 3 0 2 eightReals) is bits (map whole (1 ∷ 5 ∷ 3 ∷ 7 ∷ 2 ∷ 6 ∷ 4 ∷ 8 ∷ []))
-    ∷ reals (measure 1 0 (record { outcome = 0; reset = 0 }) halves) is bits (map whole (1 ∷ 0 ∷ []))
-    ∷ writeRecord (record { session = 7; number = 0; gate = X 1 (controls 4) })
+    ∷ reals (act 3 (Swap 0 2) eightReals) is bits (map whole (1 ∷ 5 ∷ 3 ∷ 7 ∷ 2 ∷ 6 ∷ 4 ∷ 8 ∷ []))
+    ∷ reals (act 1 (Measure 0 (record { outcome = 0; reset = 0 })) halves) is bits (map whole (1 ∷ 0 ∷ []))
+    ∷ writeRecord (record { session = 7; number = 0; gate = X 1 (controlled 4) })
     is (0x01 ∷ 0x00 ∷ 0x04 ∷ 0x00 ∷ 0x00 ∷ 0x00 ∷ 0x07 ∷ 0x02 ∷ 0x00 ∷ 0x02 ∷ 0x00 ∷ 0x00 ∷ 0x03 ∷ 0x00 ∷ 0x01 ∷ 0x02
     ∷ 0x04 ∷ 0x00 ∷ 0x01 ∷ 0x01 ∷ 0x05 ∷ 0x00 ∷ 0x04 ∷ 0x00 ∷ 0x00 ∷ 0x00 ∷ 0x04 ∷ [])
     ∷ counts (session 1 7 0) (real (1 ∷ 0 ∷ [])) (map (λ k. writeRecord (xNumbered k)) (0 ∷ 0 ∷ 2 ∷ 1 ∷ [])) is (1 ∷ 1 ∷ 1 ∷ 2 ∷ [])

@@ -2,12 +2,14 @@
 -- Each sum, difference and product rounds once, in the order written; a minus before a letter is an exact change of sign and binds first.
 use Prim.Native.Nat.{ℕ}
 use mathlib.Core.List.{List, [], _∷_}
-use mathlib.Core.Bool.{false}
+use mathlib.Core.Bool.{Bool, true, false, not, _&&_}
 use lib.Ieee as Ieee
 use lib.Ieee.{Float, fin, nan, binary64}
+use lib.Ieee.Scale.{finite}
 use lib.IntN.{pos}
 use lib.ListN.{getD}
 use Rattle.numbers.specs.Fused as Fused
+use Rattle.book.specs.Answers.{Test, _⇒_}
 use Rattle.book.specs.State.{amplitude, pair}
 use Rattle.book.specs.declared.Amplitude.{Amplitude}
 use Rattle.book.specs.declared.Angle.{Angle}
@@ -145,21 +147,8 @@ uRule m =
     (F p a (F q c ((− r) ⊗ d)), F p b (F q d (r ⊗ c)))
     (F u a (F (− v) b (F e c ((− f) ⊗ d))), F u b (F v a (F e d (f ⊗ c))))
 
--- ---- the gates on pairs: the rule, how many controls the gate takes, and the numbers that it carries
+-- ---- the numbers that a gate is fed, in 01's order, and test 6
 
-pub record PairGate : Type 0 where
-  pub rule : Pair → Pair
-  pub most : ℕ
-  pub numbers : List Float
-
--- a mask has 32 bits
-abbrev pub any : ℕ
-any = 32
-
-abbrev pub pairGate : (Pair → Pair) → ℕ → List Float → PairGate
-pairGate rule most numbers = record { rule = rule; most = most; numbers = numbers }
-
--- the numbers that a gate is fed, in 01's order
 abbrev pub angleOf : Angle → List Float
 angleOf angle = angle .cosine ∷ angle .sine ∷ []
 
@@ -169,29 +158,10 @@ anglesOf g = g .ct ∷ g .st ∷ g .cl ∷ g .sl ∷ g .cpl ∷ g .spl ∷ g .cp
 abbrev pub noiseOf : Noise → List Float
 noiseOf noise = noise .prob ∷ noise .draw ∷ []
 
-abbrev pub xGate : PairGate
-xGate = pairGate xRule any []
+abbrev pub allFinite : List Float → Bool
+allFinite [] = true
+allFinite (x ∷ xs) = finite x && allFinite xs
 
-abbrev pub yGate : PairGate
-yGate = pairGate yRule 1 []
-
-abbrev pub zGate : PairGate
-zGate = pairGate zRule 0 []
-
-abbrev pub hGate : PairGate
-hGate = pairGate hRule 1 []
-
-abbrev pub pGate : Angle → PairGate
-pGate angle = pairGate (pRule angle) any (angleOf angle)
-
-abbrev pub rxGate : Angle → PairGate
-rxGate angle = pairGate (rxRule angle) any (angleOf angle)
-
-abbrev pub ryGate : Angle → PairGate
-ryGate angle = pairGate (ryRule angle) any (angleOf angle)
-
-abbrev pub rzGate : Angle → PairGate
-rzGate angle = pairGate (rzRule angle) 1 (angleOf angle)
-
-abbrev pub uGate : Angles → PairGate
-uGate g = pairGate (uRule (uMatrix g)) 1 (anglesOf g)
+-- 6: a supplied number is NaN or infinite
+abbrev pub finiteTests : List Float → List Test
+finiteTests xs = not (allFinite xs) ⇒ 6 ∷ []

@@ -1,32 +1,37 @@
--- The kernels over two lent buffers: their refusals, tests 1 to 6 in order, and what they leave. Definitions only. Assumes nothing.
+-- Gates on pairs, SWAP and bit flip over two lent buffers: their tests, 1 to 6 in order, and what they leave. Definitions only. Assumes nothing.
 use Prim.Native.Nat.{ℕ, _+_, _-_, _*_, _^_}
-use mathlib.Core.Bool.{Bool, true, not, cond, _&&_, _||_}
-use mathlib.Core.List.{List, [], _∷_}
+use mathlib.Core.Bool.{Bool, not, cond, _||_}
+use mathlib.Core.List.{List, [], _∷_, _++_}
+use mathlib.Core.Option.{some, none}
 use lib.Count.{ones}
 use lib.Dec.{eqb, leb, ltb}
 use lib.Ieee as Ieee
-use lib.Ieee.{Float}
-use lib.Ieee.Scale.{finite}
 use lib.ListN.{length}
-use Rattle.book.specs.Answers.{taken, value, Test, _⇒_, first, Buffers, Outcome, outcome, unless}
-use Rattle.book.specs.Gates.{PairGate, xRule, noiseOf}
-use Rattle.book.specs.State.{at, held, bit, onPairs}
+use Rattle.book.specs.Answers.{Test, _⇒_, Buffers, Call, call}
+use Rattle.book.specs.Gates.{xRule, noiseOf, finiteTests}
+use Rattle.book.specs.State.{at, held, bit, uncontrolled, onPairs}
 use Rattle.book.specs.declared.Controls.{Controls}
 use Rattle.book.specs.declared.Noise.{Noise}
+use Rattle.book.specs.declared.Pair.{Pair}
 
--- ---- the tests
+-- ---- the size: 1 and 2
 
 -- 1: n is outside its range, 1 to most
 abbrev pub badSize : ℕ → ℕ → Bool
 badSize most n = ltb n 1 || ltb most n
 
+-- 2: a buffer is not of exactly the length asked
+abbrev pub badLength : ℕ → Buffers → Bool
+badLength size b = not (eqb (length (b .reals)) size) || not (eqb (length (b .imags)) size)
+
 -- n for kernels and sessions
 abbrev pub mostQubits : ℕ
 mostQubits = 24
 
--- 2: a buffer is not of exactly the length asked
-abbrev pub badLength : ℕ → Buffers → Bool
-badLength size b = not (eqb (length (b .reals)) size) || not (eqb (length (b .imags)) size)
+unfoldable pub sizeTests : ℕ → Buffers → List Test
+sizeTests n b = badSize mostQubits n ⇒ 1 ∷ badLength (2 ^ n) b ⇒ 2 ∷ []
+
+-- ---- a gate on pairs: its seat, 3 to 5, and then its own tests
 
 -- 3: a bit of the control mask is n or more
 abbrev pub outside : ℕ → Controls → Bool
@@ -40,33 +45,16 @@ clash target controls = eqb (bit target (controls .ones)) 1
 abbrev pub count : Controls → ℕ
 count controls = ones (controls .ones)
 
--- 6: each supplied number is finite
-abbrev pub allFinite : List Float → Bool
-allFinite [] = true
-allFinite (x ∷ xs) = finite x && allFinite xs
-
-abbrev pub uncontrolled : Controls
-uncontrolled = record { ones = 0 }
-
--- ---- a gate on pairs
-
-abbrev pub kernelTests : PairGate → ℕ → ℕ → Controls → Buffers → List Test
-kernelTests g n target controls b =
-    badSize mostQubits n ⇒ 1
-    ∷ badLength (2 ^ n) b ⇒ 2
-    ∷ (leb n target || outside n controls) ⇒ 3
+unfoldable pub seatTests : ℕ → ℕ → ℕ → Controls → List Test
+seatTests most n target controls =
+    (leb n target || outside n controls) ⇒ 3
     ∷ clash target controls ⇒ 4
-    ∷ ltb (g .most) (count controls) ⇒ 5
-    ∷ not (allFinite (g .numbers)) ⇒ 6
+    ∷ ltb most (count controls) ⇒ 5
     ∷ []
 
-unfoldable pub kernelRefusal : PairGate → ℕ → ℕ → Controls → Buffers → ℕ
-kernelRefusal g n target controls b = first (kernelTests g n target controls b)
-
-abbrev pub kernel : PairGate → ℕ → ℕ → Controls → Buffers → Outcome
-kernel g n target controls b =
-    unless (kernelRefusal g n target controls b) b
-    (outcome taken (onPairs (g .rule) n target controls b))
+-- the rule put to the chosen pairs, for a gate that takes so many controls and has these tests of its own
+abbrev pub pairCall : (Pair → Pair) → ℕ → List Test → ℕ → ℕ → Controls → Buffers → Call
+pairCall rule most own n target controls b = call (seatTests most n target controls ++ own) none (onPairs rule n target controls b)
 
 -- ---- SWAP
 
@@ -79,34 +67,12 @@ unfoldable pub swapped : ℕ → ℕ → ℕ → Buffers → Buffers
 unfolding held
 swapped n t0 t1 b = held (2 ^ n) (λ i. at b (exchanged t0 t1 i))
 
-abbrev pub swapTests : ℕ → ℕ → ℕ → Buffers → List Test
-swapTests n t0 t1 b =
-    badSize mostQubits n ⇒ 1
-    ∷ badLength (2 ^ n) b ⇒ 2
-    ∷ (leb n t0 || leb n t1) ⇒ 3
-    ∷ []
+abbrev pub swapCall : ℕ → ℕ → ℕ → Buffers → Call
+swapCall n t0 t1 b = call ((leb n t0 || leb n t1) ⇒ 3 ∷ []) none (swapped n t0 t1 b)
 
-unfoldable pub swapRefusal : ℕ → ℕ → ℕ → Buffers → ℕ
-swapRefusal n t0 t1 b = first (swapTests n t0 t1 b)
+-- ---- bit flip: X without controls if draw <= prob, else nothing; the answer is 1 if X ran, 0 if not
 
-abbrev pub swap : ℕ → ℕ → ℕ → Buffers → Outcome
-swap n t0 t1 b = unless (swapRefusal n t0 t1 b) b (outcome taken (swapped n t0 t1 b))
-
--- ---- bit flip
-
-abbrev pub bitFlipTests : ℕ → ℕ → Noise → Buffers → List Test
-bitFlipTests n target noise b =
-    badSize mostQubits n ⇒ 1
-    ∷ badLength (2 ^ n) b ⇒ 2
-    ∷ leb n target ⇒ 3
-    ∷ not (allFinite (noiseOf noise)) ⇒ 6
-    ∷ []
-
-unfoldable pub bitFlipRefusal : ℕ → ℕ → Noise → Buffers → ℕ
-bitFlipRefusal n target noise b = first (bitFlipTests n target noise b)
-
--- X without controls if draw <= prob, else nothing; the answer is 1 if X ran, 0 if not
-abbrev pub bitFlip : ℕ → ℕ → Noise → Buffers → Outcome
-bitFlip n target noise b =
-    unless (bitFlipRefusal n target noise b) b
-    (cond (Ieee.le (noise .draw) (noise .prob)) (outcome (value 1) (onPairs xRule n target uncontrolled b)) (outcome (value 0) b))
+abbrev pub bitFlipCall : ℕ → ℕ → Noise → Buffers → Call
+bitFlipCall n target noise b =
+    let ran = Ieee.le (noise .draw) (noise .prob) in
+    call (leb n target ⇒ 3 ∷ finiteTests (noiseOf noise)) (some (cond ran 1 0)) (cond ran (onPairs xRule n target uncontrolled b) b)

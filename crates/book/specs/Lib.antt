@@ -5,6 +5,7 @@ pub mod State
 pub mod Gates
 pub mod Kernels
 pub mod Measuring
+pub mod Calls
 pub mod Matrices
 pub mod Records
 pub mod Sessions

@@ -1,16 +1,16 @@
 -- Forced measurement: the probabilities, tests 1, 2, 3, 6 and 7, and what it leaves. Definitions only. Assumes nothing.
 use Prim.Native.Nat.{ℕ, zero, suc, _^_}
 use mathlib.Core.Bool.{Bool, not, cond, _&&_, _||_}
-use mathlib.Core.List.{List, [], _∷_}
+use mathlib.Core.List.{[], _∷_}
+use mathlib.Core.Option.{some}
 use lib.Dec.{eqb, leb}
 use lib.Ieee as Ieee
 use lib.Ieee.{Float, binary64}
 use lib.Ieee.Scale.{finite}
 use Rattle.numbers.specs.Fused as Fused
-use Rattle.book.specs.Answers.{value, Test, _⇒_, first, Buffers, Outcome, outcome, unless}
+use Rattle.book.specs.Answers.{_⇒_, Buffers, Call, call}
 use Rattle.book.specs.Gates.{_⊕_, _⊖_, _⊗_, nought, one, xRule}
-use Rattle.book.specs.Kernels.{badSize, mostQubits, badLength, uncontrolled}
-use Rattle.book.specs.State.{State, amplitude, at, held, bit, onPairs}
+use Rattle.book.specs.State.{State, amplitude, at, held, bit, uncontrolled, onPairs}
 use Rattle.book.specs.declared.Amplitude.{Amplitude}
 use Rattle.book.specs.declared.Forced.{Forced}
 
@@ -35,12 +35,12 @@ abbrev pub collapsed : ℕ → ℕ → Float → State → State
 collapsed target outcome r s i = cond (eqb (bit target i) outcome) (amplitude (s i .re ⊗ r) (s i .im ⊗ r)) (amplitude nought nought)
 
 -- r = 1/root(p)
-abbrev pub scale : Float → Float
-scale p = Ieee.div binary64 one (Fused.root binary64 p)
+abbrev pub oneOverRoot : Float → Float
+oneOverRoot p = Ieee.div binary64 one (Fused.root binary64 p)
 
 unfoldable pub measured : ℕ → ℕ → ℕ → Buffers → Buffers
 unfolding held
-measured n target outcome b = held (2 ^ n) (collapsed target outcome (scale (probability n target outcome (at b))) (at b))
+measured n target outcome b = held (2 ^ n) (collapsed target outcome (oneOverRoot (probability n target outcome (at b))) (at b))
 
 -- 6: outcome or reset is neither 0 nor 1
 abbrev pub badForced : Forced → Bool
@@ -50,22 +50,11 @@ badForced forced = leb 2 (forced .outcome) || leb 2 (forced .reset)
 abbrev pub badChance : Float → Bool
 badChance p = not (finite p && Ieee.lt nought p)
 
-abbrev pub measureTests : ℕ → ℕ → Forced → Buffers → List Test
-measureTests n target forced b =
-    badSize mostQubits n ⇒ 1
-    ∷ badLength (2 ^ n) b ⇒ 2
-    ∷ leb n target ⇒ 3
-    ∷ badForced forced ⇒ 6
-    ∷ badChance (probability n target (forced .outcome) (at b)) ⇒ 7
-    ∷ []
-
-unfoldable pub measureRefusal : ℕ → ℕ → Forced → Buffers → ℕ
-measureRefusal n target forced b = first (measureTests n target forced b)
-
 -- If the outcome is 1 and reset is 1, X follows. The answer is the outcome.
-abbrev pub measure : ℕ → ℕ → Forced → Buffers → Outcome
-measure n target forced b =
+abbrev pub measureCall : ℕ → ℕ → Forced → Buffers → Call
+measureCall n target forced b =
     let after = measured n target (forced .outcome) b in
-    unless (measureRefusal n target forced b) b
-    (outcome (value (forced .outcome))
-    (cond (eqb (forced .outcome) 1 && eqb (forced .reset) 1) (onPairs xRule n target uncontrolled after) after))
+    call
+    (leb n target ⇒ 3 ∷ badForced forced ⇒ 6 ∷ badChance (probability n target (forced .outcome) (at b)) ⇒ 7 ∷ [])
+    (some (forced .outcome))
+    (cond (eqb (forced .outcome) 1 && eqb (forced .reset) 1) (onPairs xRule n target uncontrolled after) after)

@@ -8,17 +8,21 @@ use lib.Dec.{leb, ltb, eqb}
 use lib.Ieee.{Float, binary64, ofBits, toBits}
 use lib.ListN.{length, take, drop, getD}
 use Rattle.book.specs.Gates.{angleOf, anglesOf, noiseOf}
+use Rattle.book.specs.State.{controlled}
 use Rattle.book.specs.declared.Angle.{Angle}
 use Rattle.book.specs.declared.Angles.{Angles}
 use Rattle.book.specs.declared.Controls.{Controls}
-use Rattle.book.specs.declared.Forced.{Forced}
+use Rattle.book.specs.declared.Forced.{Forced as ForcedBy}
 use Rattle.book.specs.declared.Gate.{Gate}
 use Rattle.book.specs.declared.Gate.the-variants.{H, X, Y, Z, P, Rx, Ry, Rz, U, Swap, Measure, BitFlip}
 use Rattle.book.specs.declared.Noise.{Noise}
+use Rattle.book.specs.declared.Parts.{Parts}
 use Rattle.book.specs.declared.Read.{Read}
 use Rattle.book.specs.declared.Read.the-variants.{Record as Found, Refused as Unread}
 use Rattle.book.specs.declared.Record.{Record}
 use Rattle.book.specs.declared.Refusal.the-variants.{Record as NoRecord, Room}
+use Rattle.book.specs.declared.Shape.{Shape}
+use Rattle.book.specs.declared.Shape.the-variants.{Plain, Angled, Eight, Second, Forced, Noisy}
 use Rattle.book.specs.declared.Written.{Written}
 use Rattle.book.specs.declared.Written.the-variants.{Bytes, Refused as Unwritten}
 
@@ -38,69 +42,75 @@ abbrev pub floats : List Float → List ℕ
 floats [] = []
 floats (x ∷ xs) = bytes 8 (toBits binary64 x) ++ floats xs
 
+-- ---- the table of the twelve gates
+
+abbrev pub parts : ℕ → ℕ → Shape → Parts
+parts code target shape = record { code = code; target = target; shape = shape }
+
+-- code, target, and what stands behind field 04
+abbrev pub partsOf : Gate → Parts
+partsOf (H t c) = parts 1 t (Plain c)
+partsOf (X t c) = parts 2 t (Plain c)
+partsOf (Y t c) = parts 3 t (Plain c)
+partsOf (Z t c) = parts 4 t (Plain c)
+partsOf (P t c a) = parts 5 t (Angled c a)
+partsOf (Rx t c a) = parts 6 t (Angled c a)
+partsOf (Ry t c a) = parts 7 t (Angled c a)
+partsOf (Rz t c a) = parts 8 t (Angled c a)
+partsOf (U t c g) = parts 9 t (Eight c g)
+partsOf (Swap t u) = parts 10 t (Second u)
+partsOf (Measure t f) = parts 11 t (Forced f)
+partsOf (BitFlip t a) = parts 12 t (Noisy a)
+
+-- and back: how a gate is made of a target and what stands behind it
+pub data Row : Type 0 where
+  plain : (ℕ → Controls → Gate) → Row
+  angled : (ℕ → Controls → Angle → Gate) → Row
+  eight : (ℕ → Controls → Angles → Gate) → Row
+  second : (ℕ → ℕ → Gate) → Row
+  forced : (ℕ → ForcedBy → Gate) → Row
+  noisy : (ℕ → Noise → Gate) → Row
+  unlisted : Row
+
+-- the rows of codes 0, 1, 2, .. 12
+abbrev pub rows : List Row
+rows =
+    unlisted ∷ plain H ∷ plain X ∷ plain Y ∷ plain Z ∷ angled P ∷ angled Rx ∷ angled Ry ∷ angled Rz ∷ eight U ∷ second Swap ∷ forced Measure ∷ noisy BitFlip ∷ []
+
+abbrev pub rowOf : ℕ → Row
+rowOf code = getD rows code unlisted
+
 -- ---- writing
 
 -- a field: one-byte tag, two-byte length, contents
 abbrev pub field : ℕ → List ℕ → List ℕ
 field tag contents = tag ∷ bytes 2 (length contents) ++ contents
 
-abbrev pub codeOf : Gate → ℕ
-codeOf (H t c) = 1
-codeOf (X t c) = 2
-codeOf (Y t c) = 3
-codeOf (Z t c) = 4
-codeOf (P t c a) = 5
-codeOf (Rx t c a) = 6
-codeOf (Ry t c a) = 7
-codeOf (Rz t c a) = 8
-codeOf (U t c g) = 9
-codeOf (Swap t u) = 10
-codeOf (Measure t f) = 11
-codeOf (BitFlip t a) = 12
-
-abbrev pub targetOf : Gate → ℕ
-targetOf (H t c) = t
-targetOf (X t c) = t
-targetOf (Y t c) = t
-targetOf (Z t c) = t
-targetOf (P t c a) = t
-targetOf (Rx t c a) = t
-targetOf (Ry t c a) = t
-targetOf (Rz t c a) = t
-targetOf (U t c g) = t
-targetOf (Swap t u) = t
-targetOf (Measure t f) = t
-targetOf (BitFlip t a) = t
-
 -- 05 mask, 06 second qubit, 07 cosine and sine, 08 the eight numbers of U, 09 outcome and reset, 0A prob and draw
 abbrev pub maskField : Controls → List ℕ
 maskField c = field 0x05 (bytes 4 (c .ones))
 
-abbrev pub angleField : Angle → List ℕ
-angleField a = field 0x07 (floats (angleOf a))
-
-abbrev pub fieldsOf : Gate → List ℕ
-fieldsOf (H t c) = maskField c
-fieldsOf (X t c) = maskField c
-fieldsOf (Y t c) = maskField c
-fieldsOf (Z t c) = maskField c
-fieldsOf (P t c a) = maskField c ++ angleField a
-fieldsOf (Rx t c a) = maskField c ++ angleField a
-fieldsOf (Ry t c a) = maskField c ++ angleField a
-fieldsOf (Rz t c a) = maskField c ++ angleField a
-fieldsOf (U t c g) = maskField c ++ field 0x08 (floats (anglesOf g))
-fieldsOf (Swap t u) = field 0x06 (bytes 1 u)
-fieldsOf (Measure t f) = field 0x09 (bytes 1 (f .outcome) ++ bytes 1 (f .reset))
-fieldsOf (BitFlip t a) = field 0x0A (floats (noiseOf a))
+abbrev pub fieldsOf : Shape → List ℕ
+fieldsOf (Plain c) = maskField c
+fieldsOf (Angled c a) = maskField c ++ field 0x07 (floats (angleOf a))
+fieldsOf (Eight c g) = maskField c ++ field 0x08 (floats (anglesOf g))
+fieldsOf (Second u) = field 0x06 (bytes 1 u)
+fieldsOf (Forced f) = field 0x09 (bytes 1 (f .outcome) ++ bytes 1 (f .reset))
+fieldsOf (Noisy a) = field 0x0A (floats (noiseOf a))
 
 -- 01 session, 02 number, 03 code, 04 target, then by code
 abbrev pub writeRecord : Record → List ℕ
 writeRecord r =
+    let p = partsOf (r .gate) in
     field 0x01 (bytes 4 (r .session))
     ++ field 0x02 (bytes 2 (r .number))
-    ++ field 0x03 (bytes 1 (codeOf (r .gate)))
-    ++ field 0x04 (bytes 1 (targetOf (r .gate)))
-    ++ fieldsOf (r .gate)
+    ++ field 0x03 (bytes 1 (p .code))
+    ++ field 0x04 (bytes 1 (p .target))
+    ++ fieldsOf (p .shape)
+
+-- a record has at most 94 bytes
+abbrev pub mostBytes : ℕ
+mostBytes = 94
 
 -- The writer answers how many bytes the record has and touches only those; refusal 12 if the buffer is shorter.
 abbrev pub wroteOf : Record → List ℕ → Written
@@ -134,71 +144,31 @@ readAngle c = record { cosine = float c 0; sine = float c 1 }
 
 abbrev pub readAngles : List ℕ → Angles
 readAngles c =
-    record {
-      ct = float c 0;
-      st = float c 1;
-      cl = float c 2;
-      sl = float c 3;
-      cpl = float c 4;
-      spl = float c 5;
-      cp = float c 6;
-      sp = float c 7;
-    }
+    record { ct = float c 0; st = float c 1; cl = float c 2; sl = float c 3; cpl = float c 4; spl = float c 5; cp = float c 6; sp = float c 7 }
 
 abbrev pub readNoise : List ℕ → Noise
 readNoise c = record { prob = float c 0; draw = float c 1 }
 
-abbrev pub readForced : List ℕ → Forced
+abbrev pub readForced : List ℕ → ForcedBy
 readForced c = record { outcome = getD c 0 0; reset = getD c 1 0 }
 
 -- 05 mask, and what follows it
-abbrev pub masked : List ℕ → (Controls → List ℕ → Option Gate) → Option Gate
-masked bs go = listed 0x05 4 bs λ mask rest. go (record { ones = number mask }) rest
+abbrev pub maskThen : List ℕ → (Controls → List ℕ → Option Gate) → Option Gate
+maskThen bs go = listed 0x05 4 bs λ mask rest. go (controlled (number mask)) rest
 
-abbrev pub plain : (Controls → Gate) → List ℕ → Option Gate
-plain g bs = masked bs λ c rest. last rest (g c)
+-- the gate of a row and a target, from the fields behind 04
+abbrev pub readRow : Row → ℕ → List ℕ → Option Gate
+readRow (plain g) t bs = maskThen bs λ c rest. last rest (g t c)
+readRow (angled g) t bs = maskThen bs λ c rest. listed 0x07 16 rest λ a rest′. last rest′ (g t c (readAngle a))
+readRow (eight g) t bs = maskThen bs λ c rest. listed 0x08 64 rest λ a rest′. last rest′ (g t c (readAngles a))
+readRow (second g) t bs = listed 0x06 1 bs λ u rest. last rest (g t (number u))
+readRow (forced g) t bs = listed 0x09 2 bs λ f rest. last rest (g t (readForced f))
+readRow (noisy g) t bs = listed 0x0A 16 bs λ a rest. last rest (g t (readNoise a))
+readRow unlisted t bs = none
 
-abbrev pub angled : (Controls → Angle → Gate) → List ℕ → Option Gate
-angled g bs = masked bs λ c rest. listed 0x07 16 rest λ a rest′. last rest′ (g c (readAngle a))
-
-abbrev pub eight : (Controls → Angles → Gate) → List ℕ → Option Gate
-eight g bs = masked bs λ c rest. listed 0x08 64 rest λ a rest′. last rest′ (g c (readAngles a))
-
-abbrev pub second : (ℕ → Gate) → List ℕ → Option Gate
-second g bs = listed 0x06 1 bs λ u rest. last rest (g (number u))
-
-abbrev pub forced : (Forced → Gate) → List ℕ → Option Gate
-forced g bs = listed 0x09 2 bs λ f rest. last rest (g (readForced f))
-
-abbrev pub noisy : (Noise → Gate) → List ℕ → Option Gate
-noisy g bs = listed 0x0A 16 bs λ a rest. last rest (g (readNoise a))
-
--- how the gates of codes 1, 2, .. 12 are read
-abbrev pub byCode : ℕ → List (List ℕ → Option Gate)
-byCode t =
-    plain (H t)
-    ∷ plain (X t)
-    ∷ plain (Y t)
-    ∷ plain (Z t)
-    ∷ angled (P t)
-    ∷ angled (Rx t)
-    ∷ angled (Ry t)
-    ∷ angled (Rz t)
-    ∷ eight (U t)
-    ∷ second (Swap t)
-    ∷ forced (Measure t)
-    ∷ noisy (BitFlip t)
-    ∷ []
-
-abbrev pub unread : List ℕ → Option Gate
-unread bs = none
-
-abbrev pub readGate : ℕ → ℕ → List ℕ → Option Gate
-readGate code t = getD (unread ∷ byCode t) code unread
-
-abbrev pub made : ℕ → ℕ → Option Gate → Option Record
-made s k (some g) = some (record { session = s; number = k; gate = g })
-made s k none = none
+abbrev pub recordWith : ℕ → ℕ → Option Gate → Option Record
+recordWith s k (some g) = some (record { session = s; number = k; gate = g })
+recordWith s k none = none
 
 abbrev pub readRecord : List ℕ → Option Record
 readRecord bs =
@@ -206,7 +176,7 @@ readRecord bs =
     listed 0x02 2 bs₁ λ k bs₂.
     listed 0x03 1 bs₂ λ code bs₃.
     listed 0x04 1 bs₃ λ target bs₄.
-    made (number session) (number k) (readGate (number code) (number target) bs₄)
+    recordWith (number session) (number k) (readRow (rowOf (number code)) (number target) bs₄)
 
 -- what the reader answers: the record, or refusal 8
 abbrev pub readOf : Option Record → Read

@@ -1,16 +1,13 @@
 -- Starting a session, a delivery, and a run of deliveries. Definitions only. Assumes nothing.
-use Prim.Native.Nat.{ℕ, _+_, _^_}
-use mathlib.Core.Bool.{Bool, true, false, cond, not}
+use Prim.Native.Nat.{ℕ, zero, suc, _+_}
+use mathlib.Core.Bool.{cond, not}
 use mathlib.Core.List.{List, [], _∷_}
 use mathlib.Core.Option.{Option, some, none}
 use lib.Dec.{ltb, eqb}
-use Rattle.book.specs.Answers.{Said, taken, value, refused, Replied, again, said, Buffers, Outcome}
-use Rattle.book.specs.Gates.{hGate, xGate, yGate, zGate, pGate, rxGate, ryGate, rzGate, uGate}
-use Rattle.book.specs.Kernels.{badSize, mostQubits, badLength, kernel, swap, bitFlip}
-use Rattle.book.specs.Measuring.{measure}
+use Rattle.book.specs.Answers.{refused, Replied, again, said, first, Buffers, Outcome, outcomeOf, accepts}
+use Rattle.book.specs.Calls.{callOf}
+use Rattle.book.specs.Kernels.{badSize, mostQubits, sizeTests}
 use Rattle.book.specs.Records.{readRecord}
-use Rattle.book.specs.declared.Gate.{Gate}
-use Rattle.book.specs.declared.Gate.the-variants.{H, X, Y, Z, P, Rx, Ry, Rz, U, Swap, Measure, BitFlip}
 use Rattle.book.specs.declared.Record.{Record}
 
 -- a session is n, its number and the count of records taken
@@ -26,20 +23,9 @@ session n own count = record { n = n; number = own; count = count }
 abbrev pub start : ℕ → ℕ → Option Session
 start n own = cond (badSize mostQubits n) none (some (session n own 0))
 
--- what a gate does to a state of n qubits
-unfoldable pub act : ℕ → Gate → Buffers → Outcome
-act n (H t c) b = kernel hGate n t c b
-act n (X t c) b = kernel xGate n t c b
-act n (Y t c) b = kernel yGate n t c b
-act n (Z t c) b = kernel zGate n t c b
-act n (P t c angle) b = kernel (pGate angle) n t c b
-act n (Rx t c angle) b = kernel (rxGate angle) n t c b
-act n (Ry t c angle) b = kernel (ryGate angle) n t c b
-act n (Rz t c angle) b = kernel (rzGate angle) n t c b
-act n (U t c angles) b = kernel (uGate angles) n t c b
-act n (Swap t0 t1) b = swap n t0 t1 b
-act n (Measure t forced) b = measure n t forced b
-act n (BitFlip t noise) b = bitFlip n t noise b
+-- a record was taken, of these bytes
+abbrev pub raised : Session → List ℕ → Session
+raised s bytes = session (s .n) (s .number) (s .count + 1)
 
 -- ---- a delivery: the next session, what is said, and what the buffers hold
 
@@ -52,43 +38,38 @@ pub record Delivery : Type 0 where
 abbrev pub kept : Session → Buffers → Replied → Delivery
 kept s b x = record { next = s; says = x; left = b }
 
--- a refusal where the test applies, and else what follows
-abbrev pub refusing : Bool → ℕ → Session → Buffers → Delivery → Delivery
-refusing applies k s b follows = cond applies (kept s b (said (refused k))) follows
-
--- whether a gate was taken
-abbrev pub accepts : Said → Bool
-accepts taken = true
-accepts (value v) = true
-accepts (refused k) = false
-
 -- a gate that was taken raises the count
-abbrev pub counted : Session → Buffers → Outcome → Delivery
-counted s b o =
+abbrev pub counted : Session → Buffers → List ℕ → Outcome → Delivery
+counted s b bytes o =
     cond (accepts (o .says))
-    (record { next = session (s .n) (s .number) (s .count + 1); says = said (o .says); left = o .left })
+    (record { next = raised s bytes; says = said (o .says); left = o .left })
     (kept s b (said (o .says)))
 
--- 9, 11; then a number below the count answers AGAIN, one above it 10, and only an equal one goes on to the gate, 3 to 7
-abbrev pub takeRecord : Session → Buffers → Record → Delivery
-takeRecord s b r =
-    refusing (not (eqb (r .session) (s .number))) 9 s b
-    (refusing (eqb (r .number) 65535) 11 s b
-    (cond (ltb (r .number) (s .count)) (kept s b again)
-    (refusing (ltb (s .count) (r .number)) 10 s b
-    (counted s b (act (s .n) (r .gate) b)))))
+-- 9, 11; then a number below the count answers AGAIN, one above it 10, and only an equal one goes on
+abbrev pub standing : Session → Record → Option Replied
+standing s r =
+    cond (not (eqb (r .session) (s .number))) (some (said (refused 9)))
+    (cond (eqb (r .number) 65535) (some (said (refused 11)))
+    (cond (ltb (r .number) (s .count)) (some again)
+    (cond (ltb (s .count) (r .number)) (some (said (refused 10))) none)))
+
+-- to the gate's own tests, 3 to 7
+abbrev pub takeRecord : Session → Buffers → List ℕ → Record → Option Replied → Delivery
+takeRecord s b bytes r (some x) = kept s b x
+takeRecord s b bytes r none = counted s b bytes (outcomeOf [] b (callOf (s .n) (r .gate) b))
 
 -- 8
-abbrev pub takeRead : Session → Buffers → Option Record → Delivery
-takeRead s b (some r) = takeRecord s b r
-takeRead s b none = kept s b (said (refused 8))
+abbrev pub takeRead : Session → Buffers → List ℕ → Option Record → Delivery
+takeRead s b bytes (some r) = takeRecord s b bytes r (standing s r)
+takeRead s b bytes none = kept s b (said (refused 8))
 
 -- 1, 2
+abbrev pub takeSized : Session → Buffers → List ℕ → ℕ → Delivery
+takeSized s b bytes zero = takeRead s b bytes (readRecord bytes)
+takeSized s b bytes (suc k) = kept s b (said (refused (suc k)))
+
 unfoldable pub deliver : Session → Buffers → List ℕ → Delivery
-deliver s b bytes =
-    refusing (badSize mostQubits (s .n)) 1 s b
-    (refusing (badLength (2 ^ s .n) b) 2 s b
-    (takeRead s b (readRecord bytes)))
+deliver s b bytes = takeSized s b bytes (first (sizeTests (s .n) b))
 
 -- ---- one delivery after the other
 

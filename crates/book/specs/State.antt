@@ -35,6 +35,13 @@ held size s = buffers (tabulate (λ i. s i .re) 0 size) (tabulate (λ i. s i .im
 
 -- ---- which places are chosen
 
+-- the controls of a mask, and none
+abbrev pub controlled : ℕ → Controls
+controlled mask = record { ones = mask }
+
+abbrev pub uncontrolled : Controls
+uncontrolled = controlled 0
+
 -- bit q of i
 abbrev pub bit : ℕ → ℕ → ℕ
 bit q i = i / 2 ^ q % 2

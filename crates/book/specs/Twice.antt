@@ -3,18 +3,17 @@
 use Prim.Native.Nat.{ℕ}
 use mathlib.Core.Path.{_≡_}
 use Rattle.book.specs.Answers.{Buffers}
-use Rattle.book.specs.Gates.{PairGate, xGate}
-use Rattle.book.specs.Kernels.{kernel, swap}
+use Rattle.book.specs.Calls.{act}
 use Rattle.book.specs.declared.Controls.{Controls}
+use Rattle.book.specs.declared.Gate.{Gate}
+use Rattle.book.specs.declared.Gate.the-variants.{X, Swap}
 
 -- a gate that undoes itself
-abbrev pub Undoes : PairGate → Type 0
-Undoes g =
-    (n target : ℕ) (controls : Controls) (b : Buffers)
-    → kernel g n target controls (kernel g n target controls b .left) .left ≡ b
+abbrev pub Undoes : Gate → Type 0
+Undoes g = (n : ℕ) (b : Buffers) → act n g (act n g b .left) .left ≡ b
 
 abbrev pub XTwice : Type 0
-XTwice = Undoes xGate
+XTwice = (target : ℕ) (controls : Controls) → Undoes (X target controls)
 
 abbrev pub SwapTwice : Type 0
-SwapTwice = (n t0 t1 : ℕ) (b : Buffers) → swap n t0 t1 (swap n t0 t1 b .left) .left ≡ b
+SwapTwice = (t0 t1 : ℕ) → Undoes (Swap t0 t1)

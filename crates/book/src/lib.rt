@@ -1,5 +1,16 @@
 // The values that document 01 speaks of: amplitudes, gates, records, and the answers of the calls. A session's are in the crate sessions, with its methods.
-// Types only: what they mean is in specs/, in 01's order.
+// Types, and the one place that makes controls: what they mean is in specs/, in 01's order.
+ghost use mathlib.Core.Path.{_≡_};
+ghost use Rattle.book.specs.State.{controlled};
+
+// n is 1 to 24 for kernels and sessions.
+pub const MOST_QUBITS: u32 = 24;
+
+// A record has at most 94 bytes.
+pub const MOST_BYTES: usize = 94;
+
+// Any number of controls: a mask has 32 bits.
+pub const ANY: u32 = 32;
 
 // An amplitude is a pair of f64, real and imaginary.
 pub struct Amplitude {
@@ -21,6 +32,14 @@ pub struct Matrix {
 // The controls of a gate: each qubit whose bit is set in ones has to be 1.
 pub struct Controls {
     pub ones: u32,
+}
+
+impl Controls {
+    pub fn of(ones: u32) -> Controls
+        ensures { λ r. ⌜ r ≡ controlled ones ⌝ }
+    {
+        Controls { ones }
+    }
 }
 
 // Cosine and sine of an angle, or of the half angle for RX, RY and RZ.
@@ -69,6 +88,23 @@ pub enum Gate {
     BitFlip(u8, Noise),
 }
 
+// What stands behind field 04 of a gate's record: its controls or second qubit, and what it is fed.
+pub enum Shape {
+    Plain(Controls),
+    Angled(Controls, Angle),
+    Eight(Controls, Angles),
+    Second(u8),
+    Forced(Forced),
+    Noisy(Noise),
+}
+
+// A gate in parts: a row of 01's table of codes.
+pub struct Parts {
+    pub code: u8,
+    pub target: u8,
+    pub shape: Shape,
+}
+
 // A gate record.
 pub struct Record {
     pub session: u32,
@@ -96,6 +132,14 @@ pub enum Refusal {
 pub enum Answer {
     Taken,
     Value(u8),
+    Refused(Refusal),
+}
+
+// What a delivery answers.
+pub enum Reply {
+    Taken,
+    Value(u8),
+    Again,
     Refused(Refusal),
 }
 
