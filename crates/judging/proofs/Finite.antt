@@ -11,7 +11,7 @@ use lib.Ieee.{Float, nan, inf, fin, Format, binary64, odd, units, round, sum, ad
 use lib.Ieee.Scale.{finite}
 use lib.ListN.{length, getD, drop}
 use lib.Seq.{drop-cons}
-use Rattle.book.specs.Kernels.{allFinite}
+use Rattle.book.specs.Gates.{allFinite}
 
 odd-number : (d : ℕ) (s : Bool) (q k l : ℕ) → isNan (odd d s q k l) ≡ false
 unfolding odd isNan

@@ -1,14 +1,14 @@
--- `state::all_finite` meets its contract: whether all are finite is whether those from i on are. Assumes nothing.
+-- `judging::all_finite` meets its contract: whether all are finite is whether those from i on are. Assumes nothing.
 use Prim.Native.Nat.{_≤_, _-_}
 use mathlib.Core.Path.{_≡_, refl, sym, ap, _∙_}
 use native.Mathlib.Omega.{arith}
 use borrow.Author.Needs.{needs}
 use borrow.Author.Tests.{not-true, not-false}
 use lib.ListN.{length, drop, drop-of-length-le}
-use Rattle.book.specs.Kernels.{allFinite}
-use Rattle.state.proofs.Finite.{finite-not, finite-next}
-use Rattle.state.proofs.all_finite.Statement.{statement}
-use Rattle.state.proofs.all_finite.Tie as tie
+use Rattle.book.specs.Gates.{allFinite}
+use Rattle.judging.proofs.Finite.{finite-not, finite-next}
+use Rattle.judging.proofs.all_finite.Statement.{statement}
+use Rattle.judging.proofs.all_finite.Tie as tie
 
 abbrev Inv-loop : tie.InvT-loop
 Inv-loop numbers i₀ i = (i ≤ length numbers) × (allFinite numbers ≡ allFinite (drop i numbers))

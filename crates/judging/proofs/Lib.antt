@@ -1,0 +1,7 @@
+-- Shifts: the code's `1 << n`. Finite: the test of a number, and of a list. Refusals: the tests of a seat from their numbers. Judged: a call after its judge.
+-- Seats: what holds of a call that was let pass.
+pub mod Shifts
+pub mod Finite
+pub mod Refusals
+pub mod Judged
+pub mod Seats
