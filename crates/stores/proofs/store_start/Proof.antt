@@ -1,15 +1,15 @@
--- `writer::stores::store_start` stores a tag and a length. Assumes nothing.
+-- `stores::store_start` stores a tag and a length. Assumes nothing.
 use Prim.Native.Nat.{ℕ, _+_}
 use native.Mathlib.Omega.{arith}
 use mathlib.Core.Path.{ap, _∙_}
 use mathlib.Core.List.{_∷_}
 use Rattle.book.specs.Records.{bytes}
-use Rattle.writer.specs.Stores.{store}
-use Rattle.writer.proofs.Stored.{store-then}
+use Rattle.stores.specs.Stores.{store}
+use Rattle.stores.proofs.Stored.{store-then}
 use native.Mathlib.Nat.{div-one}
 use borrow.Author.Needs.{needs}
-use Rattle.writer.proofs.stores.store_start.Statement.{statement}
-use Rattle.writer.proofs.stores.store_start.Tie as tie
+use Rattle.stores.proofs.store_start.Statement.{statement}
+use Rattle.stores.proofs.store_start.Tie as tie
 
 store-number-requires : tie.Need-store-number-requires
 store-number-requires c κs = search needs

@@ -1,15 +1,15 @@
--- `writer::stores::store_number` stores a number in bytes, the highest first. The loop's invariant: to store what is left of the number in what
+-- `stores::store_number` stores a number in bytes, the highest first. The loop's invariant: to store what is left of the number in what
 -- is left of the bytes gives what the whole gives. Assumes nothing.
 use Prim.Native.Nat.{_≤_, _<_, _^_}
 use native.Mathlib.Omega.{arith}
 use mathlib.Core.Path.{_≡_, sym, _∙_}
 use lib.ListN.{length}
 use Rattle.book.specs.Records.{bytes}
-use Rattle.writer.specs.Stores.{store}
-use Rattle.writer.proofs.Stored.{store-step, store-none}
+use Rattle.stores.specs.Stores.{store}
+use Rattle.stores.proofs.Stored.{store-step, store-none}
 use borrow.Author.Needs.{needs}
-use Rattle.writer.proofs.stores.store_number.Statement.{statement}
-use Rattle.writer.proofs.stores.store_number.Tie as tie
+use Rattle.stores.proofs.store_number.Statement.{statement}
+use Rattle.stores.proofs.store_number.Tie as tie
 
 abbrev Inv-loop : tie.InvT-loop
 Inv-loop out₀ at width n rest₀ i₀ out rest i =

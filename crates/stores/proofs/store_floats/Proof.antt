@@ -1,4 +1,4 @@
--- `writer::stores::store_floats` stores floats as their bits, one after the other. The loop's invariant: to store the floats that are left gives
+-- `stores::store_floats` stores floats as their bits, one after the other. The loop's invariant: to store the floats that are left gives
 -- what all of them give. Assumes nothing.
 use Prim.Native.Nat.{ℕ, _≤_, _-_, _+_, _*_}
 use native.Mathlib.Omega.{arith}
@@ -6,11 +6,11 @@ use mathlib.Core.Path.{_≡_, sym, ap, _∙_}
 use lib.Ieee.{nan}
 use lib.ListN.{length, drop}
 use Rattle.book.specs.Records.{bytes, floats}
-use Rattle.writer.specs.Stores.{store}
-use Rattle.writer.proofs.Stored.{floats-step, floats-all, floats-none}
+use Rattle.stores.specs.Stores.{store}
+use Rattle.stores.proofs.Stored.{floats-step, floats-all, floats-none}
 use borrow.Author.Needs.{needs}
-use Rattle.writer.proofs.stores.store_floats.Statement.{statement}
-use Rattle.writer.proofs.stores.store_floats.Tie as tie
+use Rattle.stores.proofs.store_floats.Statement.{statement}
+use Rattle.stores.proofs.store_floats.Tie as tie
 
 abbrev Inv-loop : tie.InvT-loop
 Inv-loop out₀ at numbers i₀ out i =

@@ -4,14 +4,14 @@ use native.Mathlib.Nat.{add-zero, add-suc, suc-add, zero-add, mul-comm, mul-asso
 use native.Mathlib.Nat.{div-eq-of-lt, mod-eq-of-lt, mod-lt, div-add-mod'}
 use native.Mathlib.Numerals.{add-one}
 use native.Mathlib.Omega.{arith}
-use mathlib.Core.Path.{_≡_, refl, sym, ap, _∙_}
+use mathlib.Core.Path.{_≡_, refl, sym, ap, _∙_, subst}
 use mathlib.Core.List.{List, [], _∷_, _++_}
 use lib.Ieee.{Float, binary64, toBits}
-use lib.ListN.{length, drop, getD, set, drop-of-length-le}
-use lib.Seq.{sets, length-sets, sets-eq, set-comm, drop-cons}
-use Rattle.book.specs.Records.{bytes, floats}
+use lib.ListN.{length, drop, getD, set, length-append, drop-of-length-le}
+use lib.Seq.{sets, sets-eq, set-comm, drop-cons}
+use Rattle.book.specs.Records.{bytes, floats, field}
 use Rattle.wire.proofs.Numbers.{length-bytes, pow256-pos}
-use Rattle.writer.specs.Stores.{store}
+use Rattle.stores.specs.Stores.{store, Stored}
 
 -- ---- one run after another
 
@@ -27,9 +27,24 @@ unfolding store
 store-then l l₁ l₂ at at₂ xs ys p q e =
     q ∙ ap (λ (m : List ℕ). sets m at₂ ys) p ∙ ap (λ (k : ℕ). sets (sets l at xs) k ys) e ∙ sets-append l at xs ys
 
-pub length-store : (l : List ℕ) (at : ℕ) (bs : List ℕ) → length (store l at bs) ≡ length l
-unfolding store
-length-store l at bs = length-sets l at bs
+-- two pieces, one behind the other
+pub stored-then : {xs ys l l₁ l₂ : List ℕ} {at at₁ at₂ : ℕ} → Stored xs l at at₁ l₁ → Stored ys l₁ at₁ at₂ l₂ → Stored (xs ++ ys) l at at₂ l₂
+stored-then {xs} {ys} {l} {l₁} {l₂} {at} {at₁} {at₂} p q =
+    record {
+      behind = omega (arith, p .behind, q .behind, length-append xs ys);
+      stored = store-then l l₁ l₂ at at₁ xs ys (p .stored) (q .stored) (p .behind);
+    }
+
+-- a field: its tag and length, and then its contents
+pub stored-field : (tag width at : ℕ) (contents l l₁ l₂ : List ℕ) → length contents ≡ width
+    → l₁ ≡ store l at (tag ∷ bytes 2 width) → l₂ ≡ store l₁ (at + 3) contents → Stored (field tag contents) l at (at + (3 + width)) l₂
+stored-field tag width at contents l l₁ l₂ size p q =
+    let start = tag ∷ bytes 2 width in
+    subst (λ (k : ℕ). Stored (tag ∷ bytes 2 k ++ contents) l at (at + (3 + width)) l₂) (sym size)
+    (record {
+      behind = omega (arith, length-append start contents);
+      stored = store-then l l₁ l₂ at (at + 3) start contents p q (omega arith);
+    })
 
 pub store-first : (l bs : List ℕ) → length bs ≤ length l → store l 0 bs ≡ bs ++ drop (length bs) l
 unfolding store
