@@ -1,7 +1,7 @@
--- `c_api::answers::tell_reply` gives each reply its number. Assumes nothing.
+-- `answers::tell_reply` gives each reply its number. Assumes nothing.
 use borrow.Author.Needs.{needs}
-use Rattle.c_api.proofs.answers.tell_reply.Statement.{statement}
-use Rattle.c_api.proofs.answers.tell_reply.Tie as tie
+use Rattle.answers.proofs.tell_reply.Statement.{statement}
+use Rattle.answers.proofs.tell_reply.Tie as tie
 
 returns-2 : tie.Need-returns-2
 returns-2 c = rw (c .before .reply .given .1)

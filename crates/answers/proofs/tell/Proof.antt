@@ -1,7 +1,7 @@
--- `c_api::answers::tell` gives each answer its number. Assumes nothing.
+-- `answers::tell` gives each answer its number. Assumes nothing.
 use borrow.Author.Needs.{needs}
-use Rattle.c_api.proofs.answers.tell.Statement.{statement}
-use Rattle.c_api.proofs.answers.tell.Tie as tie
+use Rattle.answers.proofs.tell.Statement.{statement}
+use Rattle.answers.proofs.tell.Tie as tie
 
 returns-2 : tie.Need-returns-2
 returns-2 c = rw (c .before .answer .given .1)

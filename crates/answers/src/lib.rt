@@ -1,21 +1,21 @@
-// An answer as one number: 0 taken, 1 to 12 a refusal, 16 AGAIN, 32 + v a value.
+// An answer as one number, laid out for all that is to come: the low byte is a refusal's number or a value, and what stands above it says which.
+// 0 taken, 1 to 255 a refusal, 256 AGAIN, 768 + v a value v; 512 + v is kept for an AGAIN that tells a value.
 use book::Answer;
 use book::Refusal;
-use sessions::Reply;
+use book::Reply;
 ghost use mathlib.Core.Path.{_≡_};
-ghost use Rattle.book.specs.Answers.{numberOf, says};
-ghost use Rattle.sessions.specs.Deliveries.{replies};
-ghost use Rattle.c_api.specs.Tells.{codeOf, replyOf};
+ghost use Rattle.book.specs.Answers.{numberOf, says, replies};
+ghost use Rattle.answers.specs.Told.{saidNumber, repliedNumber};
 
-pub(crate) const TAKEN: u32 = 0;
-
-const AGAIN: u32 = 16;
+pub const TAKEN: u32 = 0;
 
 // A value v is VALUE + v.
-const VALUE: u32 = 32;
+const VALUE: u32 = 768;
+
+const AGAIN: u32 = 256;
 
 // 01's table.
-pub(crate) fn number_of(refusal: Refusal) -> u32
+pub fn number_of(refusal: Refusal) -> u32
     ensures { λ r. ⌜ r ≡ numberOf refusal ⌝ }
 {
     match refusal {
@@ -34,8 +34,8 @@ pub(crate) fn number_of(refusal: Refusal) -> u32
     }
 }
 
-pub(crate) fn tell(answer: Answer) -> u32
-    ensures { λ r. ⌜ r ≡ codeOf (says answer) ⌝ }
+pub fn tell(answer: Answer) -> u32
+    ensures { λ r. ⌜ r ≡ saidNumber (says answer) ⌝ }
 {
     match answer {
         Answer::Taken => TAKEN,
@@ -44,8 +44,8 @@ pub(crate) fn tell(answer: Answer) -> u32
     }
 }
 
-pub(crate) fn tell_reply(reply: Reply) -> u32
-    ensures { λ r. ⌜ r ≡ replyOf (replies reply) ⌝ }
+pub fn tell_reply(reply: Reply) -> u32
+    ensures { λ r. ⌜ r ≡ repliedNumber (replies reply) ⌝ }
 {
     match reply {
         Reply::Taken => TAKEN,
