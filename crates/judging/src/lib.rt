@@ -90,7 +90,7 @@ pub fn is_finite(x: f64) -> bool
 }
 
 // Each number is finite.
-fn all_finite(numbers: &[f64]) -> bool
+pub fn all_finite(numbers: &[f64]) -> bool
     ensures { λ r. ⌜ r ≡ allFinite (now (numbers .entry)) ⌝ }
 {
     let mut i = 0;

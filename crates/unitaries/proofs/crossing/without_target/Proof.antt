@@ -1,17 +1,11 @@
--- `unitaries::crossing::pair_of` meets its contract: the bit taken off is part of the index. Assumes nothing.
+-- `unitaries::crossing::without_target` meets its contract: the bit taken off is part of the index. Assumes nothing.
 use Prim.Native.Nat.{_≤_}
 use native.Mathlib.Omega.{arith}
 use borrow.Author.Needs.{needs}
 use Rattle.matrices.proofs.Sides.{side-is}
 use Rattle.unitaries.proofs.Crossings.{bit-part-le, bit-part-lt}
-use Rattle.unitaries.proofs.crossing.pair_of.Statement.{statement}
-use Rattle.unitaries.proofs.crossing.pair_of.Tie as tie
-
-shl-bit : tie.Need-shl-bit
-shl-bit c = search needs
-
-shr-result : tie.Need-shr-result
-shr-result c = search needs
+use Rattle.unitaries.proofs.crossing.without_target.Statement.{statement}
+use Rattle.unitaries.proofs.crossing.without_target.Tie as tie
 
 mul-result : tie.Need-mul-result
 mul-result c = let l : c .args .target ≤ 6 = omega arith in rw (side-is _ l) (record { fits = omega (arith, bit-part-lt (c .args .target) (c .args .i) (omega arith)) })
@@ -22,5 +16,5 @@ sub-result c = let l : c .args .target ≤ 6 = omega arith in rw (side-is _ l) (
 returns : tie.Need-returns
 returns c = let l : c .args .target ≤ 6 = omega arith in rw (side-is _ l)
 
-pub pair-of-spec : {M : Type 1} → statement M
-pair-of-spec = tie.close (tie.spec shl-bit shr-result mul-result sub-result returns)
+pub without-target-spec : {M : Type 1} → statement M
+without-target-spec = tie.close (tie.spec (λ c. search needs) (λ c. search needs) mul-result sub-result returns)
