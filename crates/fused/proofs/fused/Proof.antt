@@ -5,7 +5,7 @@ use mathlib.Core.Logic.{inl, inr}
 use Prim.Native.Nat.{_*_, _^_}
 use borrow.Author.Needs.{needs}
 use lib.Ieee.{binary64}
-use Rattle.fused.proofs.Floats.{special-factor, zero-term, special-term, fused-ordinary, yes, no, not-yes, not-no}
+use Rattle.operands.proofs.Floats.{special-factor, zero-term, special-term, fused-ordinary, yes, no, not-yes, not-no}
 use Rattle.fused.proofs.fused.Statement.{statement}
 use Rattle.fused.proofs.fused.Tie as tie
 

@@ -1,0 +1,23 @@
+// F of three ordinary numbers, in whole numbers: two of them are multiplied exactly, into two limbs (wide), and the third is added in one unit, where digits
+// that cannot count are cut off (sum). The answer is rounded and packed once, by rounding::pack.
+mod sum;
+mod wide;
+
+ghost use mathlib.Core.Path.{_≡_};
+ghost use lib.Dec.{T};
+ghost use lib.Ieee.{binary64};
+ghost use Rattle.numbers.specs.Fused as Def;
+ghost use Rattle.operands.specs.Operands.{ordinary};
+
+// F(x,y,z) where all three are ordinary numbers. Where one is not, this is +0.
+pub fn of_ordinary(x: f64, y: f64, z: f64) -> f64
+    ensures { λ r. ⌜ T (ordinary x) → T (ordinary y) → T (ordinary z) → r ≡ Def.fused binary64 x y z ⌝ }
+{
+    let a = operands::unpack(x);
+    let b = operands::unpack(y);
+    let c = operands::unpack(z);
+    if a.m == 0 || b.m == 0 || c.m == 0 {
+        return 0.0;
+    }
+    sum::multiply_add(a, b, c)
+}
