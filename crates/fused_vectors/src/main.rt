@@ -70,7 +70,7 @@ fn fused_case(x: u64, y: u64, z: u64, answer: u64, t: Tally) -> Tally {
 
 fn root_case(x: u64, answer: u64, t: Tally) -> Tally {
     let wanted = bits(number(answer));
-    let got = bits(fused::root(number(x)));
+    let got = bits(roots::root(number(x)));
     let mut after = t;
     after.roots = text::one_more(t.roots);
     if got != wanted {

@@ -133,6 +133,12 @@ was-ordinary {f} {x} {s} {m} u h = go (ordinary x) (u .none)
     go true k = tt
     go false k = absurd (h (k tt))
 
+pub not-ordinary : {f : Format} {x : Float} {s : Bool} {m e : ℕ} → Unpacked f x s m e → m ≡ 0 → T (ordinary x) → ⊥
+not-ordinary {f} {x} {s} {m} u z o = no m z (u .fields o .some)
+  where
+    no : (m : ℕ) → m ≡ 0 → 0 < m → ⊥
+    no m e h = omega arith
+
 pub never : (b : Bool) → T (not b) → T b → ⊥
 never true n h = n
 never false n h = h

@@ -3,7 +3,7 @@
 use mathlib.Core.Path.{_≡_, sym, ap, ap₂, _∙_, subst}
 use mathlib.Core.Logic.{_⊎_, inl, inr}
 use Prim.Native.Nat.{ℕ, suc, _+_, _-_, _*_, _^_, _≤_, _<_, compare, Ordering, Ordering·lt, Ordering·eq, Ordering·gt}
-use native.Mathlib.Nat.{le-trans, le-of-eq, le-of-lt, mul-assoc, mul-one, mul-le-mul-right, add-comm, add-zero, le-add-right}
+use native.Mathlib.Nat.{le-trans, le-of-eq, le-of-lt, mul-assoc, mul-one, mul-le-mul-right, add-comm, add-zero, le-add-right, eq-zero-or-pos, zero-mul}
 use native.Mathlib.Omega.{arith}
 use mathlib.Core.Bool.{Bool, true, false, Bool·beq}
 use lib.Arith.{digits-lt}
@@ -20,22 +20,29 @@ use Rattle.numbers.proofs.Sizes.{size-exact, size-pos, size-shl}
 use Rattle.rounding.proofs.RoundToOdd.{cut-alike, cut-exact}
 
 -- ---- a number cut, and rounded
-pub round-squeeze : (f : Format) (s : Bool) (w n e x : ℕ) → 0 < w → (n ≡ 0) ⊎ (n + e + 2 ≤ x + (size w + e - x - prec f))
+pub round-squeeze : (f : Format) (s : Bool) (w n e x : ℕ) → (n ≡ 0) ⊎ (n + e + 2 ≤ x + (size w + e - x - prec f))
     → round f s (cutToOdd w n * 2 ^ (e + n)) (2 ^ (x + low f)) ≡ round f s (w * 2 ^ e) (2 ^ (x + low f))
-round-squeeze f s w n e x h (inl z) =
+round-squeeze f s w n e x (inl z) =
     ap (λ (y : ℕ). round f s y (2 ^ (x + low f)))
     (ap (λ (y : ℕ). cutToOdd w y * 2 ^ (e + y)) z ∙ ap₂ (λ (y z : ℕ). y * 2 ^ z) (ap (λ (y : ℕ). cutToOdd y 0) (sym (mul-one w)) ∙ cut-exact w 0) (add-zero e))
-round-squeeze f s w n e x h (inr l) =
-    let a : Alike (2 ^ suc n * 2 ^ e) (w * 2 ^ e) (cutToOdd w n * 2 ^ n * 2 ^ e) = scaled (2 ^ suc n) (2 ^ e) (pow-pos (suc n)) (pow-pos e) (cut-alike w n) in
-    let b : Alike (2 ^ (suc n + e)) (w * 2 ^ e) (cutToOdd w n * 2 ^ (e + n)) =
-    subst (λ (y : ℕ). Alike y (w * 2 ^ e) (cutToOdd w n * 2 ^ (e + n))) (sym (pow-add 2 (suc n) e))
-    (subst (λ (y : ℕ). Alike (2 ^ suc n * 2 ^ e) (w * 2 ^ e) y) (mul-assoc (cutToOdd w n) (2 ^ n) (2 ^ e)
-    ∙ ap (λ (y : ℕ). cutToOdd w n * y) (sym (pow-add 2 n e) ∙ ap (λ (y : ℕ). 2 ^ y) (add-comm n e))) a) in
-    sym (round-alike f s (w * 2 ^ e) (cutToOdd w n * 2 ^ (e + n)) x (suc n + e) b
-    (subst (λ (y : ℕ). suc n + e + 1 ≤ x + (y - x - prec f)) (sym (size-shl w e h)) (up n e (x + (size w + e - x - prec f)) l)))
+round-squeeze f s w n e x (inr l) = go (eq-zero-or-pos w)
   where
     up : (n e y : ℕ) → n + e + 2 ≤ y → suc n + e + 1 ≤ y
     up n e y h = omega arith
+
+    go : (w ≡ 0) ⊎ (0 < w) → round f s (cutToOdd w n * 2 ^ (e + n)) (2 ^ (x + low f)) ≡ round f s (w * 2 ^ e) (2 ^ (x + low f))
+    go (inl z) =
+        ap (λ (y : ℕ). round f s y (2 ^ (x + low f)))
+        (ap (λ (y : ℕ). y * 2 ^ (e + n)) (ap (λ (y : ℕ). cutToOdd y n) (z ∙ sym (zero-mul (2 ^ n))) ∙ cut-exact 0 n)
+        ∙ zero-mul (2 ^ (e + n)) ∙ sym (ap (λ (y : ℕ). y * 2 ^ e) z ∙ zero-mul (2 ^ e)))
+    go (inr h) =
+        let a : Alike (2 ^ suc n * 2 ^ e) (w * 2 ^ e) (cutToOdd w n * 2 ^ n * 2 ^ e) = scaled (2 ^ suc n) (2 ^ e) (pow-pos (suc n)) (pow-pos e) (cut-alike w n) in
+        let b : Alike (2 ^ (suc n + e)) (w * 2 ^ e) (cutToOdd w n * 2 ^ (e + n)) =
+        subst (λ (y : ℕ). Alike y (w * 2 ^ e) (cutToOdd w n * 2 ^ (e + n))) (sym (pow-add 2 (suc n) e))
+        (subst (λ (y : ℕ). Alike (2 ^ suc n * 2 ^ e) (w * 2 ^ e) y) (mul-assoc (cutToOdd w n) (2 ^ n) (2 ^ e)
+        ∙ ap (λ (y : ℕ). cutToOdd w n * y) (sym (pow-add 2 n e) ∙ ap (λ (y : ℕ). 2 ^ y) (add-comm n e))) a) in
+        sym (round-alike f s (w * 2 ^ e) (cutToOdd w n * 2 ^ (e + n)) x (suc n + e) b
+        (subst (λ (y : ℕ). suc n + e + 1 ≤ x + (y - x - prec f)) (sym (size-shl w e h)) (up n e (x + (size w + e - x - prec f)) l)))
 
 -- the digits of hi * 2 ^ k + lo
 pub size-wide : (hi lo k : ℕ) → 0 < hi → lo < 2 ^ k → size (hi * 2 ^ k + lo) ≡ size hi + k

@@ -11,7 +11,6 @@ limbs hi lo = hi * 2 ^ 64 + lo
 
 -- w * 2 ^ a, a product, and m * 2 ^ b, the term that is added, in working units: both are even, and the larger one is long enough for the smaller to be cut
 pub record Terms (f : Format) (w a m b : ℕ) : Type 0 where
-  pub some : 0 < w
   pub even : w % 2 ≡ 0
   pub most : w < 2 ^ (64 + prec f)
   pub long : b < a → 2 ^ 63 ≤ w

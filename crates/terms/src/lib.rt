@@ -11,12 +11,18 @@ ghost use Rattle.operands.specs.Operands.{ordinary};
 
 // F(x,y,z) where all three are ordinary numbers. Where one is not, this is +0.
 pub fn of_ordinary(x: f64, y: f64, z: f64) -> f64
-    ensures { λ r. ⌜ T (ordinary x) → T (ordinary y) → T (ordinary z) → r ≡ Def.fused binary64 x y z ⌝ }
+    ensures { λ r. ⌜ (T (ordinary x) → T (ordinary y) → T (ordinary z) → r ≡ Def.fused binary64 x y z) ⌝ }
 {
     let a = operands::unpack(x);
+    if a.m == 0 {
+        return 0.0;
+    }
     let b = operands::unpack(y);
+    if b.m == 0 {
+        return 0.0;
+    }
     let c = operands::unpack(z);
-    if a.m == 0 || b.m == 0 || c.m == 0 {
+    if c.m == 0 {
         return 0.0;
     }
     sum::multiply_add(a, b, c)

@@ -40,7 +40,7 @@ fn squeeze(w: Wide, e: u64) -> Scaled
 
 // w * 2^e working units, rounded once.
 fn pack_wide(neg: bool, w: Wide, e: u64) -> f64
-    requires { ⌜ (0 < limbs (w .hi) (w .lo)) × (w .hi < 2 ^ 63) × (e < far binary64) ⌝ }
+    requires { ⌜ (w .hi < 2 ^ 63) × (e < far binary64) ⌝ }
     ensures { λ r. ⌜ r ≡ round binary64 neg (limbs (w .hi) (w .lo) * 2 ^ e) (scale binary64) ⌝ }
 {
     let c = squeeze(w, e);
@@ -49,7 +49,7 @@ fn pack_wide(neg: bool, w: Wide, e: u64) -> f64
 
 // ±a ± b, each times 2^e working units, rounded once. What is exactly zero is +0: two terms of one sign are never that.
 fn pack_sum(p: bool, a: Wide, m: bool, b: Wide, e: u64) -> f64
-    requires { ⌜ (0 < limbs (a .hi) (a .lo)) × (a .hi + b .hi + 1 < 2 ^ 63) × (e < far binary64) ⌝ }
+    requires { ⌜ (a .hi + b .hi + 1 < 2 ^ 63) × (e < far binary64) ⌝ }
     ensures { λ r. ⌜ r ≡ sum binary64 p (limbs (a .hi) (a .lo) * 2 ^ e) m (limbs (b .hi) (b .lo) * 2 ^ e) (scale binary64) ⌝ }
 {
     if p == m {

@@ -49,7 +49,7 @@ returns-2 c =
     (v .1, normal b (v .0))
 
 pub fields-spec : {M : Type 1} → statement M
-fields-spec = 
+fields-spec =
     tie.close
     (tie.spec
     (λ c. ordinary-number (c .args .x) (c .pre))

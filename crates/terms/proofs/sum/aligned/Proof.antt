@@ -11,7 +11,6 @@ use lib.Ieee.{binary64, prec, sum}
 use Rattle.rounding.specs.Odd.{toOdd, cutToOdd}
 use Rattle.terms.specs.Terms.{limbs}
 use Rattle.rounding.specs.Working.{scale}
-use Rattle.rounding.proofs.RoundToOdd.{cut-pos, is-even, is-odd}
 use Rattle.terms.proofs.Aligned.{finer, coarse}
 use Rattle.terms.proofs.sum.aligned.Statement.{statement}
 use Rattle.terms.proofs.sum.aligned.Tie as tie
@@ -28,20 +27,6 @@ top h l k b = lt-of-mul-lt-mul-right (2 ^ 64) (subst (λ (y : ℕ). h * 2 ^ 64 <
 one-limb : (x : ℕ) → limbs 0 x ≡ x
 unfolding limbs
 one-limb x = omega arith
-
-some-odd : (h l : ℕ) → 0 < limbs h l → 0 < toOdd h l
-unfolding limbs
-some-odd h l p = go (eq-zero-or-pos l)
-  where
-    odd : (q : ℕ) → 0 < q / 2 * 2 + 1
-    odd q = omega arith
-
-    upper : l ≡ 0 → 0 < h
-    upper z = omega arith
-
-    go : (l ≡ 0) ⊎ (0 < l) → 0 < toOdd h l
-    go (inl z) = subst (λ (y : ℕ). 0 < y) (sym (is-even h l z)) (upper z)
-    go (inr z) = subst (λ (y : ℕ). 0 < y) (sym (is-odd h l z)) (odd h)
 
 one-more : (h g : ℕ) → h < 2 ^ prec binary64 → g < 2 ^ 62 → h + g + 1 < 2 ^ 63
 one-more h g a b = omega arith
@@ -75,7 +60,7 @@ shift-to-odd-requires : tie.Need-shift-to-odd-requires
 shift-to-odd-requires c κs = search needs
 
 pack-sum-requires : tie.Need-pack-sum-requires
-pack-sum-requires c κs = let s = c .before .before in (s .pre .some, one-more (s .args .w .hi) 0 (upper s) (pow-pos 62), s .pre .near)
+pack-sum-requires c κs = let s = c .before .before in (one-more (s .args .w .hi) 0 (upper s) (pow-pos 62), s .pre .near)
 
 returns : tie.Need-returns
 returns c =
@@ -102,7 +87,7 @@ pack-sum-requires-2 c κs =
     let d = s .args .b - s .args .a in
     let g : r .hi < 2 ^ 62 = top (r .hi) (r .lo) 62 (subst (λ (y : ℕ). y < 2 ^ (64 + 62)) (sym (c .multiply .ensures))
     (product (s .args .m) d (s .pre .most') (c .before .if2 .taken))) in
-    (s .pre .some, one-more (s .args .w .hi) (r .hi) (upper s) g, s .pre .near)
+    (one-more (s .args .w .hi) (r .hi) (upper s) g, s .pre .near)
 
 to-odd-requires : tie.Need-to-odd-requires
 to-odd-requires c κs = search needs
@@ -111,15 +96,7 @@ shift-to-odd-requires-2 : tie.Need-shift-to-odd-requires-2
 shift-to-odd-requires-2 c κs = search needs
 
 pack-sum-requires-3 : tie.Need-pack-sum-requires-3
-pack-sum-requires-3 c κs =
-    let s = c .before .before .before .before in
-    let w = s .args .w in
-    let o : 0 < c .before .to-odd .result = subst (λ (y : ℕ). 0 < y) (sym (c .before .to-odd .ensures)) (some-odd (w .hi) (w .lo) (s .pre .some)) in (
-      subst (λ (y : ℕ). 0 < y) (sym (one-limb (c .shift-to-odd2 .result) ∙ c .shift-to-odd2 .ensures))
-          (cut-pos (c .before .to-odd .result) (s .args .b - s .args .a - 64) o),
-      lit< tt,
-      s .pre .near',
-    )
+pack-sum-requires-3 c κs = (lit< tt, c .before .before .before .before .pre .near')
 
 returns-2 : tie.Need-returns-2
 returns-2 c =

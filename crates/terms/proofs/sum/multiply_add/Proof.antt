@@ -32,7 +32,6 @@ terms : (m e n d p g : ℕ) → Fields binary64 m e → Fields binary64 n d → 
     → Terms binary64 (m * 2 ^ 11 * n) (e + d + 5) (p * 2 ^ 10) (g + (low binary64 + 6))
 terms m e n d p g x y z =
     record {
-      some = mul-pos (omega arith) (y .some);
       even = ap (λ (w : ℕ). w % 2) (mul-right-comm m (2 ^ 11) n) ∙ twice (m * n);
       most = lt-of-le-of-lt (mul-le-mul-left (m * 2 ^ 11) (le-of-lt (y .most))) (mul-lt-mul-of-pos-right (bound m (x .most)) (pow-pos (prec binary64)));
       long = λ h. large h (eq-zero-or-pos e) (eq-zero-or-pos d);

@@ -23,9 +23,6 @@ zero-law = refl
 said : {r : Bool} (x y : ℕ) → r ≡ ltb x y → r ≡ true → x < y
 said x y e t = ltb-true x y (sym e ∙ t)
 
-rest : (r x y : ℕ) → r ≡ x - y → y < x → 0 < r
-rest r x y e h = omega arith
-
 -- the two terms
 abbrev first : tie.Start → ℕ
 first c = limbs (c .args .a .hi) (c .args .a .lo)
@@ -33,43 +30,15 @@ first c = limbs (c .args .a .hi) (c .args .a .lo)
 abbrev second : tie.Start → ℕ
 second c = limbs (c .args .b .hi) (c .args .b .lo)
 
-add-requires : tie.Need-add-requires
-add-requires c κs = search needs
-
-pack-wide-requires : tie.Need-pack-wide-requires
-pack-wide-requires c κs = (omega arith, omega arith, c .before .before .pre .2)
-
-less-requires : tie.Need-less-requires
-less-requires c κs = search needs
-
 subtract-requires : tie.Need-subtract-requires
-subtract-requires c κs = le-of-lt (said (first (c .before .before .before)) (second (c .before .before .before)) (c .before .less .ensures) (c .if2 .taken))
-
-pack-wide-requires-2 : tie.Need-pack-wide-requires-2
-pack-wide-requires-2 c κs =
-    let s = c .before .before .before .before in
-    let w = c .subtract .result in (
-      rest (limbs (w .hi) (w .lo)) (second s) (first s) (c .subtract .ensures .0)
-          (said (first s) (second s) (c .before .before .less .ensures) (c .before .if2 .taken)),
-      omega arith,
-      s .pre .2,
-    )
-
-less-requires-2 : tie.Need-less-requires-2
-less-requires-2 c κs = search needs
+subtract-requires c κs =
+    let s = c .before .before .before in
+    le-of-lt (said (first s) (second s) (c .before .less .ensures) (c .if2 .taken))
 
 subtract-requires-2 : tie.Need-subtract-requires-2
-subtract-requires-2 c κs = let s = c .before .before .before .before .before in le-of-lt (said (second s) (first s) (c .before .less2 .ensures) (c .if3 .taken))
-
-pack-wide-requires-3 : tie.Need-pack-wide-requires-3
-pack-wide-requires-3 c κs =
-    let s = c .before .before .before .before .before .before in
-    let w = c .subtract2 .result in (
-      rest (limbs (w .hi) (w .lo)) (first s) (second s) (c .subtract2 .ensures .0)
-          (said (second s) (first s) (c .before .before .less2 .ensures) (c .before .if3 .taken)),
-      omega arith,
-      s .pre .2,
-    )
+subtract-requires-2 c κs =
+    let s = c .before .before .before .before .before in
+    le-of-lt (said (second s) (first s) (c .before .less2 .ensures) (c .if3 .taken))
 
 returns : tie.Need-returns
 returns c =
@@ -123,14 +92,14 @@ pub pack-sum-spec : {M : Type 1} → statement M
 pack-sum-spec =
     tie.close
     (tie.spec
-    add-requires
-    pack-wide-requires
-    less-requires
+    (λ c κs. search needs)
+    (λ c κs. search needs)
+    (λ c κs. search needs)
     subtract-requires
-    pack-wide-requires-2
-    less-requires-2
+    (λ c κs. search needs)
+    (λ c κs. search needs)
     subtract-requires-2
-    pack-wide-requires-3
+    (λ c κs. search needs)
     returns
     returns-2
     returns-3

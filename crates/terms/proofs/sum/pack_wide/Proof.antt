@@ -7,11 +7,9 @@ use native.Mathlib.Nat.{eq-zero-or-pos}
 use native.Mathlib.Omega.{arith}
 use borrow.Author.Needs.{needs}
 use lib.Ieee.{Format, binary64, prec, size, round}
-use lib.Ieee.Digits.{size-le}
 use Rattle.numbers.proofs.Sizes.{size-zero}
 use Rattle.terms.specs.Terms.{limbs}
 use Rattle.rounding.specs.Working.{below, scale}
-use Rattle.rounding.proofs.RoundToOdd.{cut-pos}
 use Rattle.terms.proofs.AlikeSums.{round-squeeze, size-wide}
 use Rattle.terms.proofs.sum.pack_wide.Statement.{statement}
 use Rattle.terms.proofs.sum.pack_wide.Tie as tie
@@ -27,18 +25,6 @@ enough f hi lo e p l = go (eq-zero-or-pos hi)
     go (inl h) = inl (ap size h ∙ size-zero)
     go (inr h) = inr (room (below f) (prec f) (size hi) (size (limbs hi lo)) e p (size-wide hi lo 64 h l))
 
-squeeze-requires : tie.Need-squeeze-requires
-squeeze-requires c κs = search needs
-
-pack-requires : tie.Need-pack-requires
-pack-requires c κs =
-    let w = c .before .args .w in
-    let z = size-le (w .hi) 63 (c .before .pre .1) in (
-      subst (λ (y : ℕ). 0 < y) (sym (c .squeeze .ensures .0)) (cut-pos (limbs (w .hi) (w .lo)) (size (w .hi)) (c .before .pre .0)),
-      omega
-          (arith, c .squeeze .ensures .1),
-    )
-
 returns : tie.Need-returns
 returns c =
     let a = c .before .before .args in
@@ -46,8 +32,8 @@ returns c =
     let e = c .before .squeeze .ensures in
     c .pack .ensures
     ∙ ap₂ (λ (s e : ℕ). round binary64 (a .neg) (s * 2 ^ e) (scale binary64)) (e .0) (e .1)
-    ∙ round-squeeze binary64 (a .neg) (limbs (w .hi) (w .lo)) (size (w .hi)) (a .e) (below binary64) (c .before .before .pre .0)
+    ∙ round-squeeze binary64 (a .neg) (limbs (w .hi) (w .lo)) (size (w .hi)) (a .e) (below binary64)
     (enough binary64 (w .hi) (w .lo) (a .e) (omega arith) (omega arith))
 
 pub pack-wide-spec : {M : Type 1} → statement M
-pack-wide-spec = tie.close (tie.spec squeeze-requires pack-requires returns)
+pack-wide-spec = tie.close (tie.spec (λ c κs. search needs) (λ c κs. search needs) returns)
