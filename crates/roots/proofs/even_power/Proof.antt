@@ -94,20 +94,8 @@ squared m e d b f i z one =
     limit : (d : ℕ) → e < 2 * emax binary64 → (e + l - (p - d)) / 2 < 2 * suc (emax binary64)
     limit d h = omega arith
 
-digits-requires : tie.Need-digits-requires
-digits-requires c κs = search needs
-
 sub-z : tie.Need-sub-z
 sub-z c = omega (arith, c .digits .ensures, size-le (c .before .args .m) p (c .before .pre .most))
-
-shl-n : tie.Need-shl-n
-shl-n c = search needs
-
-add-g : tie.Need-add-g
-add-g c = search needs
-
-sub-g : tie.Need-sub-g
-sub-g c = search needs
 
 mul-t10 : tie.Need-mul-t10
 mul-t10 c =
@@ -132,4 +120,14 @@ returns-2 c =
     odd x h = omega arith
 
 pub even-power-spec : {M : Type 1} → statement M
-even-power-spec = tie.close (tie.spec digits-requires sub-z shl-n add-g sub-g mul-t10 returns returns-2)
+even-power-spec =
+    tie.close
+    (tie.spec
+    (λ c κs. search needs)
+    sub-z
+    (λ c. search needs)
+    (λ c. search needs)
+    (λ c. search needs)
+    mul-t10
+    returns
+    returns-2)

@@ -78,21 +78,6 @@ none a q r p h = record {
 known : (c : tie.Start) → (2 * c .args .d .q < 2 ^ 64) × (2 * c .args .d .q + 1 < 2 ^ 64) × (4 * c .args .d .q < 2 ^ 64) × (4 * c .args .d .q + 1 < 2 ^ 64)
 known c = small (c .args .d .q) (c .pre .0)
 
-mul-r : tie.Need-mul-r
-mul-r c = search needs
-
-add-r : tie.Need-add-r
-add-r c = search needs
-
-mul-b : tie.Need-mul-b
-mul-b c = search needs
-
-mul-if1 : tie.Need-mul-if1
-mul-if1 c = search needs
-
-add-if1 : tie.Need-add-if1
-add-if1 c = search needs
-
 mul-t10 : tie.Need-mul-t10
 mul-t10 c = record { fits = known (c .before .before) .0 }
 
@@ -105,12 +90,6 @@ mul-t12 c = record { fits = known (c .before .before) .2 }
 add-t13 : tie.Need-add-t13
 add-t13 c = record { fits = known (c .before .before) .3 }
 
-sub-t14 : tie.Need-sub-t14
-sub-t14 c = search needs
-
-mul-t15 : tie.Need-mul-t15
-mul-t15 c = search needs
-
 returns : tie.Need-returns
 returns c = let d = c .before .before .args .d in one (d .a) (d .q) (d .r) (c .before .before .pre .1) (below-four (d .a) (omega arith)) (c .if1 .taken)
 
@@ -118,4 +97,19 @@ returns-2 : tie.Need-returns-2
 returns-2 c = let d = c .before .before .args .d in none (d .a) (d .q) (d .r) (below-four (d .a) (omega arith)) (c .if1 .left)
 
 pub root-step-spec : {M : Type 1} → statement M
-root-step-spec = tie.close (tie.spec mul-r add-r mul-b mul-if1 add-if1 mul-t10 add-t11 mul-t12 add-t13 sub-t14 mul-t15 returns returns-2)
+root-step-spec =
+    tie.close
+    (tie.spec
+    (λ c. search needs)
+    (λ c. search needs)
+    (λ c. search needs)
+    (λ c. search needs)
+    (λ c. search needs)
+    mul-t10
+    add-t11
+    mul-t12
+    add-t13
+    (λ c. search needs)
+    (λ c. search needs)
+    returns
+    returns-2)

@@ -15,15 +15,6 @@ use Rattle.rounding.proofs.assemble.Tie as tie
 no-nan : (b : ℕ) → b % top binary64 ≤ ones binary64 * hid binary64 → T (not (nanBits binary64 b))
 no-nan b h = subst (λ (t : Bool). T (not t)) (sym (nanBits-above binary64 b)) (le→nltb (ones binary64 * hid binary64) (b % top binary64) h)
 
-mul-bits : tie.Need-mul-bits
-mul-bits c = search needs
-
-add-bits : tie.Need-add-bits
-add-bits c = search needs
-
-add-result : tie.Need-add-result
-add-result c = search needs
-
 float-from-bits-result : tie.Need-float-from-bits-result
 float-from-bits-result c = let a = c .before .before .args in no-nan (a .k * hid binary64 + a .q + top binary64) (omega arith)
 
@@ -66,9 +57,9 @@ pub assemble-spec : {M : Type 1} → statement M
 assemble-spec =
     tie.close
     (tie.spec
-    mul-bits
-    add-bits
-    add-result
+    (λ c. search needs)
+    (λ c. search needs)
+    (λ c. search needs)
     float-from-bits-result
     float-from-bits-result-2
     float-from-bits-result-3

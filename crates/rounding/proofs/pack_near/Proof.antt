@@ -59,12 +59,6 @@ kept f n k e l =
     room : (z k l p : ℕ) → k ≡ z - (l + 16 + p) → 0 < k → suc p + (l + 16 - 2 + k) < z
     room z k l p e h = omega arith
 
-dropped-requires : tie.Need-dropped-requires
-dropped-requires c κs = search needs
-
-quarters-requires : tie.Need-quarters-requires
-quarters-requires c κs = search needs
-
 quarter-requires : tie.Need-quarter-requires
 quarter-requires c κs =
     let a = c .before .before .args in
@@ -91,4 +85,4 @@ returns c =
     ∙ sym (round-cut binary64 (a .neg) (a .s * 2 ^ a .e) (below binary64 - 2) (k .result) (omega (arith, k .ensures)))
 
 pub pack-near-spec : {M : Type 1} → statement M
-pack-near-spec = tie.close (tie.spec dropped-requires quarters-requires quarter-requires assemble-requires returns)
+pack-near-spec = tie.close (tie.spec (λ c κs. search needs) (λ c κs. search needs) quarter-requires assemble-requires returns)

@@ -25,12 +25,6 @@ up t h = go (compare (t % 4 * 2) 4) (cmp (t % 4 * 2) 4)
     go Ordering·eq k = omega arith
     go Ordering·gt k = omega arith
 
-add-if1 : tie.Need-add-if1
-add-if1 c = search needs
-
-add-result : tie.Need-add-result
-add-result c = search needs
-
 returns : tie.Need-returns
 returns c = down (c .before .args .t) (omega arith)
 
@@ -38,4 +32,4 @@ returns-2 : tie.Need-returns-2
 returns-2 c = up (c .before .args .t) (omega arith)
 
 pub quarter-spec : {M : Type 1} → statement M
-quarter-spec = tie.close (tie.spec add-if1 add-result returns returns-2)
+quarter-spec = tie.close (tie.spec (λ c. search needs) (λ c. search needs) returns returns-2)

@@ -29,15 +29,6 @@ left s e m h k =
 add-cut : tie.Need-add-cut
 add-cut c = omega (arith, size-le (c .args .s) 64 (omega arith))
 
-shift-to-odd-requires : tie.Need-shift-to-odd-requires
-shift-to-odd-requires c κs = search needs
-
-sub-result : tie.Need-sub-result
-sub-result c = search needs
-
-shl-result : tie.Need-shl-result
-shl-result c = search needs
-
 returns : tie.Need-returns
 returns c =
     let a = c .before .before .args in
@@ -47,4 +38,4 @@ returns-2 : tie.Need-returns-2
 returns-2 c = let a = c .before .args in left (a .s) (a .e) (below binary64 - 2 + a .k) (omega arith) (omega arith)
 
 pub quarters-spec : {M : Type 1} → statement M
-quarters-spec = tie.close (tie.spec add-cut shift-to-odd-requires sub-result shl-result returns returns-2)
+quarters-spec = tie.close (tie.spec add-cut (λ c κs. search needs) (λ c. search needs) (λ c. search needs) returns returns-2)

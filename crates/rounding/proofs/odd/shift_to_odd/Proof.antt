@@ -15,23 +15,11 @@ rest x n h = ap (λ (z : ℕ). x - z) (mod-eq-of-lt (lt-of-le-of-lt (div-mul-le-
 gone : (x n : ℕ) → x < 2 ^ 64 → 64 ≤ n → toOdd 0 x ≡ toOdd (x / 2 ^ n) (x % 2 ^ n)
 gone x n h k = let l : x < 2 ^ n = lt-of-lt-of-le h (pow-mono k) in sym (ap₂ toOdd (div-eq-of-lt l) (mod-eq-of-lt l))
 
-shr-q : tie.Need-shr-q
-shr-q c = search needs
-
-shl-to-odd : tie.Need-shl-to-odd
-shl-to-odd c = search needs
-
 sub-to-odd : tie.Need-sub-to-odd
 sub-to-odd c =
     let x = c .before .args .x in
     let n = c .before .args .n in
     le-trans (mod-le (x / 2 ^ n * 2 ^ n) (2 ^ 64)) (div-mul-le-self x (2 ^ n))
-
-to-odd-requires : tie.Need-to-odd-requires
-to-odd-requires c κs = search needs
-
-to-odd-requires-2 : tie.Need-to-odd-requires-2
-to-odd-requires-2 c κs = search needs
 
 returns : tie.Need-returns
 unfolding cutToOdd
@@ -45,4 +33,13 @@ unfolding cutToOdd
 returns-2 c = c .to-odd2 .ensures ∙ gone (c .before .before .args .x) (c .before .before .args .n) (omega arith) (omega arith)
 
 pub shift-to-odd-spec : {M : Type 1} → statement M
-shift-to-odd-spec = tie.close (tie.spec shr-q shl-to-odd sub-to-odd to-odd-requires to-odd-requires-2 returns returns-2)
+shift-to-odd-spec =
+    tie.close
+    (tie.spec
+    (λ c. search needs)
+    (λ c. search needs)
+    sub-to-odd
+    (λ c κs. search needs)
+    (λ c κs. search needs)
+    returns
+    returns-2)

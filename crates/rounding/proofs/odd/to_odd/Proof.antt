@@ -4,12 +4,6 @@ use borrow.Author.Tests.{eq-eqb, ne-eqb}
 use Rattle.rounding.proofs.odd.to_odd.Statement.{statement}
 use Rattle.rounding.proofs.odd.to_odd.Tie as tie
 
-mul-result : tie.Need-mul-result
-mul-result c = search needs
-
-add-result : tie.Need-add-result
-add-result c = search needs
-
 returns : tie.Need-returns
 returns c = simp (eq-eqb _ _ (c .if1 .taken))
 
@@ -17,4 +11,4 @@ returns-2 : tie.Need-returns-2
 returns-2 c = simp (ne-eqb _ _ (c .if1 .left))
 
 pub to-odd-spec : {M : Type 1} → statement M
-to-odd-spec = tie.close (tie.spec mul-result add-result returns returns-2)
+to-odd-spec = tie.close (tie.spec (λ c. search needs) (λ c. search needs) returns returns-2)

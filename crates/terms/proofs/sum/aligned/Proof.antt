@@ -53,12 +53,6 @@ joined m a b h k =
 upper : (c : tie.Start) → c .args .w .hi < 2 ^ prec binary64
 upper c = top (c .args .w .hi) (c .args .w .lo) (prec binary64) (c .pre .most)
 
-sub-shift-to-odd : tie.Need-sub-shift-to-odd
-sub-shift-to-odd c = search needs
-
-shift-to-odd-requires : tie.Need-shift-to-odd-requires
-shift-to-odd-requires c κs = search needs
-
 pack-sum-requires : tie.Need-pack-sum-requires
 pack-sum-requires c κs = let s = c .before .before in (one-more (s .args .w .hi) 0 (upper s) (pow-pos 62), s .pre .near)
 
@@ -74,12 +68,6 @@ returns c =
     ∙ finer binary64 62 (lit≤ tt) (a .p) w (a .a) (a .t) (a .m) (a .b) (c .before .before .if1 .taken) (t .even) (t .long (c .before .before .if1 .taken))
     (t .most')
 
-shl-multiply : tie.Need-shl-multiply
-shl-multiply c = search needs
-
-multiply-requires : tie.Need-multiply-requires
-multiply-requires c κs = search needs
-
 pack-sum-requires-2 : tie.Need-pack-sum-requires-2
 pack-sum-requires-2 c κs =
     let s = c .before .before .before in
@@ -88,12 +76,6 @@ pack-sum-requires-2 c κs =
     let g : r .hi < 2 ^ 62 = top (r .hi) (r .lo) 62 (subst (λ (y : ℕ). y < 2 ^ (64 + 62)) (sym (c .multiply .ensures))
     (product (s .args .m) d (s .pre .most') (c .before .if2 .taken))) in
     (one-more (s .args .w .hi) (r .hi) (upper s) g, s .pre .near)
-
-to-odd-requires : tie.Need-to-odd-requires
-to-odd-requires c κs = search needs
-
-shift-to-odd-requires-2 : tie.Need-shift-to-odd-requires-2
-shift-to-odd-requires-2 c κs = search needs
 
 pack-sum-requires-3 : tie.Need-pack-sum-requires-3
 pack-sum-requires-3 c κs = (lit< tt, c .before .before .before .before .pre .near')
@@ -124,15 +106,15 @@ pub aligned-spec : {M : Type 1} → statement M
 aligned-spec =
     tie.close
     (tie.spec
-    sub-shift-to-odd
-    shift-to-odd-requires
+    (λ c. search needs)
+    (λ c κs. search needs)
     pack-sum-requires
     returns
-    shl-multiply
-    multiply-requires
+    (λ c. search needs)
+    (λ c κs. search needs)
     pack-sum-requires-2
-    to-odd-requires
-    shift-to-odd-requires-2
+    (λ c κs. search needs)
+    (λ c κs. search needs)
     pack-sum-requires-3
     returns-2
     returns-3)

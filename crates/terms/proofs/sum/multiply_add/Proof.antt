@@ -68,24 +68,6 @@ terms m e n d p g x y z =
     large h (inl i) (inr j) = mul-le-mul {n₁ = 2 ^ 11} {m₁ = hid binary64} (some-factor m (x .some)) (y .full j)
     large h (inl i) (inl j) = absurd (none e d g i j h)
 
-mul-multiply : tie.Need-mul-multiply
-mul-multiply c = search needs
-
-multiply-requires : tie.Need-multiply-requires
-multiply-requires c κs = search needs
-
-add-aligned : tie.Need-add-aligned
-add-aligned c = search needs
-
-add-aligned-2 : tie.Need-add-aligned-2
-add-aligned-2 c = search needs
-
-mul-aligned : tie.Need-mul-aligned
-mul-aligned c = search needs
-
-add-aligned-3 : tie.Need-add-aligned-3
-add-aligned-3 c = search needs
-
 aligned-requires : tie.Need-aligned-requires
 aligned-requires c κs =
     let s = c .before .before .before .before .before .before .before .before in
@@ -109,4 +91,14 @@ returns c =
     ∙ sym (sum-scaled binary64 s p (a .z .neg) q (2 ^ (low binary64 + low binary64)) (2 ^ 16) (pow-pos (low binary64 + low binary64)) (pow-pos 16))
 
 pub multiply-add-spec : {M : Type 1} → statement M
-multiply-add-spec = tie.close (tie.spec mul-multiply multiply-requires add-aligned add-aligned-2 mul-aligned add-aligned-3 aligned-requires returns)
+multiply-add-spec =
+    tie.close
+    (tie.spec
+    (λ c. search needs)
+    (λ c κs. search needs)
+    (λ c. search needs)
+    (λ c. search needs)
+    (λ c. search needs)
+    (λ c. search needs)
+    aligned-requires
+    returns)

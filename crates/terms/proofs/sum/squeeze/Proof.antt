@@ -53,9 +53,6 @@ module _ (hi lo n : ℕ) (few : n ≤ 64) (digits : hi < 2 ^ n) (limb : lo < 2 ^
       (ap (λ (y : ℕ). lo - y) (mod-eq-of-lt (lt-of-le-of-lt (div-mul-le-self lo (2 ^ n)) limb)) ∙ sym (mod-eq-sub-div-mul lo (2 ^ n))
       ∙ sym (ap (λ (y : ℕ). y % 2 ^ n) e ∙ mul-add-mod-self-right (hi * 2 ^ (64 - n)) (2 ^ n) lo))
 
-digits-requires : tie.Need-digits-requires
-digits-requires c κs = search needs
-
 shr-q : tie.Need-shr-q
 shr-q c = let z = size-le (c .before .before .args .w .hi) 63 (c .before .before .pre .0) in omega (arith, c .digits .ensures)
 
@@ -82,9 +79,6 @@ sub-to-odd-2 c =
     let lo = c .before .before .args .w .lo in
     let n = c .digits .result in
     le-trans (mod-le (lo / 2 ^ n * 2 ^ n) (2 ^ 64)) (div-mul-le-self lo (2 ^ n))
-
-to-odd-requires : tie.Need-to-odd-requires
-to-odd-requires c κs = search needs
 
 add-t15 : tie.Need-add-t15
 add-t15 c = let z = size-le (c .before .before .before .args .w .hi) 63 (c .before .before .before .pre .0) in omega (arith, c .before .digits .ensures)
@@ -113,14 +107,14 @@ pub squeeze-spec : {M : Type 1} → statement M
 squeeze-spec =
     tie.close
     (tie.spec
-    digits-requires
+    (λ c κs. search needs)
     shr-q
     sub-to-odd
     shl-to-odd
     add-to-odd
     shl-to-odd-2
     sub-to-odd-2
-    to-odd-requires
+    (λ c κs. search needs)
     add-t15
     returns
     returns-2)

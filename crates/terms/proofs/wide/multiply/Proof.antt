@@ -51,15 +51,9 @@ add-t12 c = let s = sizes (c .args .u) (c .args .v) (omega arith) (omega arith) 
 add-t14 : tie.Need-add-t14
 add-t14 c = let s = sizes (c .args .u) (c .args .v) (omega arith) (omega arith) in omega (arith, s .0, s .1, s .2, s .3)
 
-mul-t16 : tie.Need-mul-t16
-mul-t16 c = search needs
-
-add-t18 : tie.Need-add-t18
-add-t18 c = search needs
-
 returns : tie.Need-returns
 unfolding limbs
 returns c = whole (2 ^ 32) (c .args .u) (c .args .v)
 
 pub multiply-spec : {M : Type 1} → statement M
-multiply-spec = tie.close (tie.spec mul-w0 mul-t add-t mul-w1 add-w1 mul-t10 add-t12 add-t14 mul-t16 add-t18 returns)
+multiply-spec = tie.close (tie.spec mul-w0 mul-t add-t mul-w1 add-w1 mul-t10 add-t12 add-t14 (λ c. search needs) (λ c. search needs) returns)
