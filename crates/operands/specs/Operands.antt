@@ -1,4 +1,4 @@
--- What is told of an operand: whether it is zero or an ordinary number, and what such a number's fields are, over a format f. Definitions only. Assumes nothing.
+-- What is told of an operand: whether it is zero or an ordinary number, and such a number's fields, over a format f. Definitions only. Assumes nothing.
 use mathlib.Core.Path.{_≡_}
 use Prim.Native.Nat.{ℕ, _*_, _^_, _≤_, _<_}
 use mathlib.Core.Bool.{Bool, false, not}

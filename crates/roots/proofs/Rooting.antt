@@ -99,9 +99,6 @@ module _ (h rest t : ℕ) (e : h * h + rest ≡ t) (l : rest ≤ 2 * h) where
   middle-order : compare (toOdd (2 * h) rest % 32 * 2) 32 ≡ compare t ((16 * (h / 16) + 8) * (16 * (h / 16) + 8))
   middle-order = go (eq-zero-or-pos rest)
     where
-      c : ℕ
-      c = 16 * (h / 16) + 8
-
       lower : (s : ℕ) → s % 32 * 2 < 32 → h < 16 * (h / 16) + 8 → compare (s % 32 * 2) 32 ≡ compare t ((16 * (h / 16) + 8) * (16 * (h / 16) + 8))
       lower s a b = cmp-lt (s % 32 * 2) 32 a ∙ sym (cmp-lt t ((16 * (h / 16) + 8) * (16 * (h / 16) + 8)) (below-middle (16 * (h / 16) + 8) b))
 

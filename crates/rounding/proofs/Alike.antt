@@ -1,16 +1,17 @@
 -- What rounding to odd keeps of a number: its whole part in units of c, and whether it is a multiple of c. Two numbers that agree in both are `Alike`, and
 -- no rounding to a multiple of 2 * c can tell them apart (`closest-alike`). Assumes nothing.
-use mathlib.Core.Path.{_≡_, sym, ap, ap₂, _∙_, subst, refl}
-use Prim.Native.Nat.{ℕ, _+_, _*_, _/_, _%_, _≤_, _<_, compare, Ordering, Ordering·lt, Ordering·eq, Ordering·gt, _-_, _^_}
-use native.Mathlib.Nat.{mod-lt, div-div-eq-div-mul, mul-comm, mul-right-comm, mul-pos, mul-le-mul-right, suc-mul, zero-lt-suc, mul-assoc, mul-left-comm, mul-div-mul-right}
+use mathlib.Core.Path.{_≡_, refl, sym, ap, ap₂, _∙_, subst}
+use Prim.Native.Nat.{ℕ, _+_, _-_, _*_, _/_, _%_, _^_, _≤_, _<_, compare, Ordering, Ordering·lt, Ordering·eq, Ordering·gt}
+use native.Mathlib.Nat.{mod-lt, div-div-eq-div-mul, mul-comm, mul-right-comm, mul-pos, mul-le-mul-right, suc-mul, zero-lt-suc}
+use native.Mathlib.Nat.{mul-assoc, mul-left-comm, mul-div-mul-right}
 use native.Mathlib.Omega.{arith}
+use mathlib.Core.Bool.{Bool}
 use lib.Arith.{mod-mul, digits-div, digits-mod}
-use lib.Ieee.{nearest, Format, prec, low, size, units, round}
+use lib.Pow.{pow-add, pow-pos}
+use lib.Ieee.{Format, nearest, prec, low, size, units, round}
+use lib.Ieee.Fits.{round-is}
 use lib.Ieee.Nearest.{closest, closest-same}
 use Rattle.numbers.proofs.Orders.{Cmp, cmp, cmp-lt, cmp-gt, cmp-same}
-use mathlib.Core.Bool.{Bool}
-use lib.Pow.{pow-add, pow-pos}
-use lib.Ieee.Fits.{round-is}
 
 -- ---- alike
 pub record Alike (c n m : ℕ) : Type 0 where

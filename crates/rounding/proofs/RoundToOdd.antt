@@ -93,24 +93,6 @@ cut-scaled a d e =
         go (inl z) = is-even q (r * c) (ap (λ (y : ℕ). y * c) z ∙ zero-mul c) ∙ sym (is-even q r z)
         go (inr h) = is-odd q (r * c) (mul-pos h C) ∙ sym (is-odd q r h)
 
-pub cut-pos : (n k : ℕ) → 0 < n → 0 < cutToOdd n k
-cut-pos n k h = subst (λ (y : ℕ). 0 < y) (sym (cut-is n k)) (go (eq-zero-or-pos (n % 2 ^ k)))
-  where
-    odd-pos : (q : ℕ) → 0 < q / 2 * 2 + 1
-    odd-pos q = omega arith
-
-    some : (q p r : ℕ) → r ≡ 0 → p + r ≡ n → (q ≡ 0 → p ≡ 0) → 0 < q
-    some q p r z e f = pick (eq-zero-or-pos q)
-      where
-        pick : (q ≡ 0) ⊎ (0 < q) → 0 < q
-        pick (inl y) = let w : p ≡ 0 = f y in omega arith
-        pick (inr l) = l
-
-    go : (n % 2 ^ k ≡ 0) ⊎ (0 < n % 2 ^ k) → 0 < toOdd (n / 2 ^ k) (n % 2 ^ k)
-    go (inl z) = subst (λ (y : ℕ). 0 < y) (sym (is-even (n / 2 ^ k) (n % 2 ^ k) z))
-        (some (n / 2 ^ k) (n / 2 ^ k * 2 ^ k) (n % 2 ^ k) z (div-add-mod' n (2 ^ k)) (λ y. ap (λ (x : ℕ). x * 2 ^ k) y ∙ zero-mul (2 ^ k)))
-    go (inr l) = subst (λ (y : ℕ). 0 < y) (sym (is-odd (n / 2 ^ k) (n % 2 ^ k) l)) (odd-pos (n / 2 ^ k))
-
 -- how large it is
 odd-lt : (q r j : ℕ) → q < 2 ^ suc j → toOdd q r < 2 ^ suc j
 odd-lt q r j h = go (eq-zero-or-pos r)

@@ -57,9 +57,6 @@ unlike-zero r s b h = go (eq-zero-or-pos s)
 pub less : (c x : ℕ) {n m : ℕ} → 0 < c → n ≤ x * c → Alike c n m → Alike c (x * c - n) (x * c - m)
 less c x {n} {m} C h k = go (eq-zero-or-pos (n % c))
   where
-    i : ℕ
-    i = n / c
-
     with-i : (y : ℕ) → y / c ≡ n / c → y ≡ n / c * c + y % c
     with-i y e = parts c y ∙ ap (λ (z : ℕ). z * c + y % c) e
 

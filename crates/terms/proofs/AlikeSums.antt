@@ -36,7 +36,8 @@ round-squeeze f s w n e x (inr l) = go (eq-zero-or-pos w)
         (ap (λ (y : ℕ). y * 2 ^ (e + n)) (ap (λ (y : ℕ). cutToOdd y n) (z ∙ sym (zero-mul (2 ^ n))) ∙ cut-exact 0 n)
         ∙ zero-mul (2 ^ (e + n)) ∙ sym (ap (λ (y : ℕ). y * 2 ^ e) z ∙ zero-mul (2 ^ e)))
     go (inr h) =
-        let a : Alike (2 ^ suc n * 2 ^ e) (w * 2 ^ e) (cutToOdd w n * 2 ^ n * 2 ^ e) = scaled (2 ^ suc n) (2 ^ e) (pow-pos (suc n)) (pow-pos e) (cut-alike w n) in
+        let a : Alike (2 ^ suc n * 2 ^ e) (w * 2 ^ e) (cutToOdd w n * 2 ^ n * 2 ^ e) =
+        scaled (2 ^ suc n) (2 ^ e) (pow-pos (suc n)) (pow-pos e) (cut-alike w n) in
         let b : Alike (2 ^ (suc n + e)) (w * 2 ^ e) (cutToOdd w n * 2 ^ (e + n)) =
         subst (λ (y : ℕ). Alike y (w * 2 ^ e) (cutToOdd w n * 2 ^ (e + n))) (sym (pow-add 2 (suc n) e))
         (subst (λ (y : ℕ). Alike (2 ^ suc n * 2 ^ e) (w * 2 ^ e) y) (mul-assoc (cutToOdd w n) (2 ^ n) (2 ^ e)
@@ -66,15 +67,6 @@ module _ (f : Format) (s : Bool) (x : ℕ) (t : Bool) (n m X v : ℕ) (k : Alike
     pub sum-alike : sum f s (x * 2 ^ v) t n (2 ^ (X + low f)) ≡ sum f s (x * 2 ^ v) t m (2 ^ (X + low f))
     sum-alike = go (either (Bool·beq s t))
       where
-        c : ℕ
-        c = 2 ^ v
-
-        P : 0 < 2 ^ v
-        P = pow-pos v
-
-        D : ℕ
-        D = 2 ^ (X + low f)
-
         go : (Bool·beq s t ≡ true) ⊎ (Bool·beq s t ≡ false) → sum f s (x * 2 ^ v) t n (2 ^ (X + low f)) ≡ sum f s (x * 2 ^ v) t m (2 ^ (X + low f))
         go (inl e) =
             sum-plus f s (x * 2 ^ v) t n (2 ^ (X + low f)) e

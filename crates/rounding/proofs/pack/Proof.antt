@@ -21,8 +21,9 @@ nothing neg = refl
 
 beyond : (f : Format) (s e : ℕ) → 0 < s → suc (emax f) + (below f + low f) ≤ e → limit f * scale f ≤ s * 2 ^ e
 beyond f s e h k =
+    let one : 2 ^ e ≤ s * 2 ^ e = le-trans (le-of-eq (sym (one-mul (2 ^ e)))) (mul-le-mul-right (2 ^ e) h) in
     le-trans (mul-le-mul-right (scale f) (sub-le (2 ^ suc (emax f)) (2 ^ (emax f - prec f))))
-    (le-trans (le-of-eq (sym (pow-add 2 (suc (emax f)) (below f + low f)))) (le-trans (pow-mono k) (le-trans (le-of-eq (sym (one-mul (2 ^ e)))) (mul-le-mul-right (2 ^ e) h))))
+    (le-trans (le-of-eq (sym (pow-add 2 (suc (emax f)) (below f + low f)))) (le-trans (pow-mono k) one))
 
 returns : tie.Need-returns
 returns c =

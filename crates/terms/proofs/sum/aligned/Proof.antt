@@ -1,14 +1,13 @@
 -- `terms::sum::aligned` meets its contract: in each of its three cases the two terms stand in one unit, and what was cut was rounded to odd. Assumes nothing.
 use mathlib.Core.Path.{_≡_, sym, ap, ap₂, _∙_, subst}
-use mathlib.Core.Logic.{_⊎_, inl, inr}
-use Prim.Native.Nat.{ℕ, _+_, _-_, _*_, _/_, _%_, _^_, _≤_, _<_}
-use native.Mathlib.Nat.{one-mul, mul-assoc, mod-eq-of-lt, lt-of-mul-lt-mul-right, le-add-right, lt-of-le-of-lt, lt-of-lt-of-le, eq-zero-or-pos}
+use Prim.Native.Nat.{ℕ, _+_, _-_, _*_, _%_, _^_, _≤_, _<_}
+use native.Mathlib.Nat.{one-mul, mul-assoc, mod-eq-of-lt, lt-of-mul-lt-mul-right, le-add-right, lt-of-le-of-lt, lt-of-lt-of-le}
 use native.Mathlib.Omega.{arith}
 use borrow.Author.Needs.{needs}
 use lib.Dec.{lit<, lit≤}
 use lib.Pow.{pow-add, pow-pos, pow-lt, pow-mono, shl-lt}
 use lib.Ieee.{binary64, prec, sum}
-use Rattle.rounding.specs.Odd.{toOdd, cutToOdd}
+use Rattle.rounding.specs.Odd.{cutToOdd}
 use Rattle.terms.specs.Terms.{limbs}
 use Rattle.rounding.specs.Working.{scale}
 use Rattle.terms.proofs.Aligned.{finer, coarse}

@@ -2,7 +2,7 @@
 use mathlib.Core.Path.{_≡_, sym, ap, ap₂, _∙_, subst}
 use mathlib.Core.Logic.{_⊎_, inl, inr}
 use Prim.Native.Nat.{ℕ, _+_, _*_, _%_, _^_, _≤_, _<_}
-use native.Mathlib.Nat.{mul-pos, mul-assoc, mul-comm, mul-left-comm, mul-right-comm, mul-le-mul, mul-lt-mul-of-pos-right, lt-of-le-of-lt, mul-le-mul-left}
+use native.Mathlib.Nat.{mul-assoc, mul-comm, mul-left-comm, mul-right-comm, mul-le-mul, mul-lt-mul-of-pos-right, lt-of-le-of-lt, mul-le-mul-left}
 use native.Mathlib.Nat.{le-of-lt, eq-zero-or-pos}
 use native.Mathlib.Omega.{arith}
 use borrow.Author.Needs.{needs}
@@ -70,22 +70,22 @@ terms m e n d p g x y z =
 
 aligned-requires : tie.Need-aligned-requires
 aligned-requires c κs =
-    let s = c .before .before .before .before .before .before .before .before in
+    let multiplied = c .before .before .before .before .before .before in
+    let s = multiplied .before .before in
     let a = s .args in
-    subst (λ (w : ℕ). Terms binary64 w (a .x .e + a .y .e + 5) (a .z .m * 2 ^ 10) (a .z .e + (low binary64 + 6)))
-    (sym (c .before .before .before .before .before .before .multiply .ensures))
+    subst (λ (w : ℕ). Terms binary64 w (a .x .e + a .y .e + 5) (a .z .m * 2 ^ 10) (a .z .e + (low binary64 + 6))) (sym (multiplied .multiply .ensures))
     (terms (a .x .m) (a .x .e) (a .y .m) (a .y .e) (a .z .m) (a .z .e) (s .pre .0) (s .pre .1) (s .pre .2))
 
 returns : tie.Need-returns
 returns c =
-    let a = c .before .before .before .before .before .before .before .before .before .args in
-    let w = c .before .before .before .before .before .before .before .multiply in
+    let multiplied = c .before .before .before .before .before .before .before in
+    let a = multiplied .before .before .args in
     let s = unlike (a .x .neg) (a .y .neg) in
     let p = a .x .m * 2 ^ a .x .e * (a .y .m * 2 ^ a .y .e) in
     let q = a .z .m * 2 ^ a .z .e * 2 ^ low binary64 in
     c .aligned .ensures
     ∙ ap (λ (w : ℕ). sum binary64 s (w * 2 ^ (a .x .e + a .y .e + 5)) (a .z .neg) (a .z .m * 2 ^ 10 * 2 ^ (a .z .e + (low binary64 + 6))) (scale binary64))
-    (w .ensures)
+    (multiplied .multiply .ensures)
     ∙ ap₂ (λ (v w : ℕ). sum binary64 s v (a .z .neg) w (scale binary64)) (product (a .x .m) (a .x .e) (a .y .m) (a .y .e))
     (term (a .z .m) (a .z .e) (low binary64))
     ∙ sym (sum-scaled binary64 s p (a .z .neg) q (2 ^ (low binary64 + low binary64)) (2 ^ 16) (pow-pos (low binary64 + low binary64)) (pow-pos 16))

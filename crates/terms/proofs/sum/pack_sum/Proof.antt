@@ -1,8 +1,7 @@
 -- `terms::sum::pack_sum` meets its contract: by the cases of lib.Ieee's `sum`. Assumes nothing.
 use mathlib.Core.Path.{_≡_, refl, sym, ap, _∙_}
-use Prim.Native.Nat.{ℕ, _-_, _*_, _^_, _<_}
+use Prim.Native.Nat.{ℕ, _*_, _^_, _<_}
 use native.Mathlib.Nat.{le-of-lt, le-antisymm, add-mul, mul-lt-mul-of-pos-right}
-use native.Mathlib.Omega.{arith}
 use mathlib.Core.Bool.{Bool, true, false}
 use borrow.Author.Needs.{needs}
 use borrow.Author.Tests.{ltb-true, ltb-false}
@@ -66,15 +65,17 @@ returns-2 c =
 
 returns-3 : tie.Need-returns-3
 returns-3 c =
-    let s = c .before .before .before .before .before .before .before in
+    let told = c .before .before .before in
+    let unlike = told .before .before .before in
+    let s = unlike .before in
     let a = s .args in
     let x = first s in
     let y = second s in
     let g = 2 ^ a .e in
-    let h : y < x = said y x (c .before .before .before .less2 .ensures) (c .before .before .if3 .taken) in
+    let h : y < x = said y x (told .less2 .ensures) (c .before .before .if3 .taken) in
     c .pack-wide3 .ensures
     ∙ ap (λ (n : ℕ). round binary64 (a .p) n (scale binary64)) (ap (λ (n : ℕ). n * g) (c .before .subtract2 .ensures .0) ∙ sub-mul x y g)
-    ∙ sym (sum-more binary64 (a .p) (x * g) (a .m) (y * g) (scale binary64) (c .before .before .before .before .before .before .if1 .left)
+    ∙ sym (sum-more binary64 (a .p) (x * g) (a .m) (y * g) (scale binary64) (unlike .if1 .left)
     (mul-lt-mul-of-pos-right h (pow-pos (a .e))))
 
 returns-4 : tie.Need-returns-4

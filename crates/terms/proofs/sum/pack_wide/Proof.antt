@@ -1,6 +1,6 @@
 -- `terms::sum::pack_wide` meets its contract: two limbs have more digits than are kept, with two to spare, so squeezing them changes no answer.
 -- Assumes nothing.
-use mathlib.Core.Path.{_≡_, sym, ap, ap₂, _∙_, subst}
+use mathlib.Core.Path.{_≡_, ap, ap₂, _∙_}
 use mathlib.Core.Logic.{_⊎_, inl, inr}
 use Prim.Native.Nat.{ℕ, _+_, _-_, _*_, _^_, _≤_, _<_}
 use native.Mathlib.Nat.{eq-zero-or-pos}
