@@ -1,4 +1,6 @@
 // A float as an operand: whether it is finite, whether it is an ordinary number (finite and not zero), and such a number taken apart.
+use numbers::HIDDEN;
+use numbers::SIGN;
 ghost use mathlib.Core.Path.{_≡_};
 ghost use Prim.Native.Nat.{_*_, _^_};
 ghost use lib.Dec.{T};
@@ -6,19 +8,6 @@ ghost use lib.Ieee.{binary64, low};
 ghost use lib.Ieee.Exact.{HasValue};
 ghost use lib.Ieee.Scale.{finite};
 ghost use Rattle.operands.specs.Operands.{isZero, ordinary, Fields, Unpacked};
-
-// binary64 in numbers: how many binary digits a significand has, and the smallest value is 2^-LOW.
-pub const PRECISION: u64 = 53;
-
-pub const LOW: u64 = 1074;
-
-// A significand's leading digit, which the bits leave out: the weight of the exponent's field.
-pub const HIDDEN: u64 = 0x0010_0000_0000_0000;
-
-// The bits of an infinity, and the weight of the sign.
-pub const INFINITY: u64 = 0x7ff0_0000_0000_0000;
-
-pub const SIGN: u64 = 0x8000_0000_0000_0000;
 
 // Neither NaN nor infinite: only then is x - x equal to itself.
 pub fn is_finite(x: f64) -> bool

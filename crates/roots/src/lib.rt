@@ -2,8 +2,8 @@
 //
 // An ordinary number above zero is made a number times a power of four. The root of that number is worked out digit by digit, with four digits more
 // than are kept and rounded to odd, and packed. The other operands need no digits.
-use operands::LOW;
-use operands::PRECISION;
+use numbers::LOW;
+use numbers::PRECISION;
 use rounding::BELOW;
 use rounding::to_odd;
 ghost use mathlib.Core.Path.{_≡_};

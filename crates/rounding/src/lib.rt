@@ -5,13 +5,13 @@
 // too long after rounding; from the infinity's bits on it is the infinity.
 mod odd;
 
+use numbers::HIDDEN;
+use numbers::INFINITY;
+use numbers::LOW;
+use numbers::PRECISION;
+use numbers::SIGN;
 pub use odd::shift_to_odd;
 pub use odd::to_odd;
-use operands::HIDDEN;
-use operands::INFINITY;
-use operands::LOW;
-use operands::PRECISION;
-use operands::SIGN;
 ghost use mathlib.Core.Path.{_≡_};
 ghost use Prim.Native.Nat.{_+_, _-_, _*_, _^_, _<_};
 ghost use lib.Ieee.{binary64, prec, size, units, round};
@@ -30,10 +30,10 @@ const QUARTER: u64 = BELOW - 2;
 
 const MINUS_INFINITY: u64 = SIGN + INFINITY;
 
-// Whatever has this exponent or a higher one is far beyond the largest f64. With it nothing here overflows.
+// With this exponent or a higher one a count lies far beyond the largest f64, and below it no sum of exponents overflows.
 const FAR: u64 = 4160;
 
-// So many digits dropped make an infinity.
+// Whatever has dropped so many digits is an infinity.
 const TOO_MANY: u64 = 2047;
 
 // How many binary digits x has.
@@ -96,7 +96,7 @@ fn assemble(neg: bool, q: u64, k: u64) -> f64
     }
 }
 
-// The f64 nearest to s * 2^e working units, none of which is far.
+// The f64 nearest to s * 2^e working units, for an s above 0 and an e below FAR.
 fn pack_near(neg: bool, s: u64, e: u64) -> f64
     requires { ⌜ (0 < s) × (e < far binary64 + 64) ⌝ }
     ensures { λ r. ⌜ r ≡ round binary64 neg (s * 2 ^ e) (scale binary64) ⌝ }
@@ -106,7 +106,7 @@ fn pack_near(neg: bool, s: u64, e: u64) -> f64
     assemble(neg, quarter(t), k)
 }
 
-// The f64 nearest to s * 2^e working units.
+// The f64 nearest to s * 2^e working units, for every s and e.
 pub fn pack(neg: bool, s: u64, e: u64) -> f64
     ensures { λ r. ⌜ r ≡ round binary64 neg (s * 2 ^ e) (scale binary64) ⌝ }
 {

@@ -1,7 +1,7 @@
 // x * y + z of ordinary numbers: the two terms brought to one unit and added or subtracted, exactly but for digits that rounding to odd may stand for.
 use crate::wide;
 use crate::wide::Wide;
-use operands::LOW;
+use numbers::LOW;
 use operands::Number;
 use rounding::shift_to_odd;
 use rounding::to_odd;
