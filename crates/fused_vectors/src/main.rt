@@ -3,13 +3,12 @@
 // A line has 70 bytes: a letter, four words of 16 hex digits with a space before each, and a line feed. `F x y z r` asks that r is F(x,y,z), and
 // `R x r x r` twice that r is the root of x. docs/VECTORS.md says how the list was made. A line that is not so is counted as unread, and so are bytes
 // left over at the end: what is printed shows a short or a spoilt list.
-mod float;
 mod text;
 
-use float::bits;
-use float::number;
 use libc::STDIN_FILENO;
 use libc::STDOUT_FILENO;
+use wire::bits_of;
+use wire::float_of;
 ghost use lib.ListN.{length};
 ghost use Prim.Native.Nat.{_+_, _≤_};
 
@@ -55,8 +54,8 @@ fn show_root(x: u64, wanted: u64, got: u64) {
 }
 
 fn fused_case(x: u64, y: u64, z: u64, answer: u64, t: Tally) -> Tally {
-    let wanted = bits(number(answer));
-    let got = bits(fused::fused(number(x), number(y), number(z)));
+    let wanted = bits_of(float_of(answer));
+    let got = bits_of(fused::fused(float_of(x), float_of(y), float_of(z)));
     let mut after = t;
     after.fused = text::one_more(t.fused);
     if got != wanted {
@@ -69,8 +68,8 @@ fn fused_case(x: u64, y: u64, z: u64, answer: u64, t: Tally) -> Tally {
 }
 
 fn root_case(x: u64, answer: u64, t: Tally) -> Tally {
-    let wanted = bits(number(answer));
-    let got = bits(roots::root(number(x)));
+    let wanted = bits_of(float_of(answer));
+    let got = bits_of(roots::root(float_of(x)));
     let mut after = t;
     after.roots = text::one_more(t.roots);
     if got != wanted {

@@ -1,8 +1,9 @@
--- F of ordinary numbers is one sum in whole numbers. Assumes nothing.
-use mathlib.Core.Path.{_≡_, sym, ap, _∙_}
+-- F of ordinary numbers is one sum in whole numbers; and a choice by whether three operands are ordinary. Assumes nothing.
+use mathlib.Core.Path.{_≡_, refl, sym, ap, _∙_}
 use Prim.Native.Nat.{ℕ, _+_, _*_, _^_, _<_}
 use native.Mathlib.Nat.{mul-assoc, mul-pos}
-use mathlib.Core.Bool.{Bool}
+use mathlib.Core.Bool.{Bool, true, false, cond, _&&_}
+use lib.Dec.{T}
 use lib.Pow.{pow-add, pow-pos}
 use lib.Ieee.{Float, Format, low, unlike, sum}
 use lib.Ieee.Exact.{HasValue}
@@ -21,3 +22,16 @@ fused-ordinary f x y z r s t a b c h k l =
     ∙ ap (λ (w : ℕ). sum f (unlike r s) (a * b * L) t w (L * L * L)) (sym (mul-assoc c L L))
     ∙ sym (sum-scaled f (unlike r s) (a * b) t (c * L) (L * L) L (mul-pos P P) P)
     ∙ ap (sum f (unlike r s) (a * b) t (c * L)) (sym (pow-add 2 (low f) (low f)))
+
+-- ---- all three, or not
+pub all-three : {X : Type 0} (a b c : Bool) (x y : X) → T a → T b → T c → cond (a && (b && c)) x y ≡ x
+all-three true true true x y p q r = refl
+all-three true true false x y p q r = absurd r
+all-three true false c x y p q r = absurd q
+all-three false b c x y p q r = absurd p
+
+pub not-three : {X : Type 0} (a b c : Bool) (x y : X) → (T a → T b → T c → ⊥) → y ≡ cond (a && (b && c)) x y
+not-three true true true x y h = absurd (h tt tt tt)
+not-three true true false x y h = refl
+not-three true false c x y h = refl
+not-three false b c x y h = refl

@@ -4,14 +4,12 @@ mod sum;
 mod wide;
 
 ghost use mathlib.Core.Path.{_≡_};
-ghost use lib.Dec.{T};
 ghost use lib.Ieee.{binary64};
-ghost use Rattle.numbers.specs.Fused as Def;
-ghost use Rattle.operands.specs.Operands.{ordinary};
+ghost use Rattle.terms.specs.Terms.{ofOrdinary};
 
 // F(x,y,z) where all three are ordinary numbers. Where one is not, this is +0.
 pub fn of_ordinary(x: f64, y: f64, z: f64) -> f64
-    ensures { λ r. ⌜ (T (ordinary x) → T (ordinary y) → T (ordinary z) → r ≡ Def.fused binary64 x y z) ⌝ }
+    ensures { λ r. ⌜ r ≡ ofOrdinary binary64 x y z ⌝ }
 {
     let a = operands::unpack(x);
     if a.m == 0 {

@@ -1,8 +1,12 @@
 -- `fused::fused` meets its contract: three ordinary numbers are left to `terms`, and the other operands need no rounding of their own. Assumes nothing.
+use mathlib.Core.Path.{_∙_}
 use mathlib.Core.Logic.{inl, inr}
 use borrow.Author.Needs.{needs}
 use lib.Ieee.{binary64}
+use Rattle.numbers.specs.Fused.{fused}
+use Rattle.operands.specs.Operands.{ordinary}
 use Rattle.operands.proofs.Floats.{yes, no, not-yes, not-no}
+use Rattle.terms.proofs.Ordinary.{all-three}
 use Rattle.fused.proofs.Special.{special-factor, zero-term, special-term}
 use Rattle.fused.proofs.fused.Statement.{statement}
 use Rattle.fused.proofs.fused.Tie as tie
@@ -22,8 +26,11 @@ returns-3 c =
     let third = c .before in
     let second = third .before .before in
     let first = second .before .before in
-    c .of-ordinary .ensures (not-no (first .before .is-ordinary .ensures) (first .if1 .left))
-    (not-no (second .before .is-ordinary2 .ensures) (second .if2 .left)) (yes (third .before .is-ordinary3 .ensures) (third .if3 .taken))
+    let a = first .before .before .args in
+    c .of-ordinary .ensures
+    ∙ all-three (ordinary (a .x)) (ordinary (a .y)) (ordinary (a .z)) (fused binary64 (a .x) (a .y) (a .z)) _
+    (not-no (first .before .is-ordinary .ensures) (first .if1 .left)) (not-no (second .before .is-ordinary2 .ensures) (second .if2 .left))
+    (yes (third .before .is-ordinary3 .ensures) (third .if3 .taken))
 
 returns-4 : tie.Need-returns-4
 returns-4 c =
