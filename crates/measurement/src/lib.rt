@@ -55,7 +55,7 @@ fn bad_chance(p: f64) -> bool
 fn scale_of(p: f64) -> f64
     ensures { λ r. ⌜ r ≡ scale p ⌝ }
 {
-    1.0 / fused::root(p)
+    1.0 / roots::root(p)
 }
 
 // If the outcome is 1 and reset is 1, X follows.
