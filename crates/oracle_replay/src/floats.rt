@@ -11,28 +11,32 @@ pub(crate) fn part(floats: &[f64], at: usize, count: usize) -> &[f64] {
     &floats[at..at + count]
 }
 
-// As many as both have.
-pub(crate) fn copy(into: &mut [f64], from: &[f64]) {
+// Each place of a buffer, as far as there are floats from one on.
+pub(crate) fn copy(into: &mut [f64], floats: &[f64], at: usize) {
+    let mut from = at;
     let mut i: usize = 0;
     while i < into.len() {
-        if from.len() <= i {
+        if floats.len() <= from {
             return;
         }
-        into[i] = from[i];
+        into[i] = floats[from];
+        from += 1;
         i += 1;
     }
 }
 
-// Bit for bit.
-pub(crate) fn same(a: &[f64], b: &[f64]) -> bool {
-    if a.len() != b.len() {
-        return false;
-    }
+// Bit for bit, the floats from one on.
+pub(crate) fn same(found: &[f64], floats: &[f64], at: usize) -> bool {
+    let mut from = at;
     let mut i: usize = 0;
-    while i < a.len() {
-        if wire::bits_of(a[i]) != wire::bits_of(b[i]) {
+    while i < found.len() {
+        if floats.len() <= from {
             return false;
         }
+        if wire::bits_of(found[i]) != wire::bits_of(floats[from]) {
+            return false;
+        }
+        from += 1;
         i += 1;
     }
     true

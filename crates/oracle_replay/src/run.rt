@@ -67,6 +67,27 @@ fn product(
     unitaries::apply_unitary(ar, ai, br, bi, reals, imags, n)
 }
 
+fn gate_matrix(head: Head, floats: &[f64], reals: &mut [f64], imags: &mut [f64]) -> Answer {
+    let matrix = matrix_of(floats);
+    unitaries::from_single_qubit_gate(reals, imags, head.n as u32, head.given as u32, matrix)
+}
+
+// A call of unitaries.rs.
+fn unitary(
+    head: Head,
+    layout: Layout,
+    floats: &[f64],
+    reals: &mut [f64],
+    imags: &mut [f64],
+) -> Answer {
+    let kind = head.kind;
+    match kind {
+        GATE_MATRIX => gate_matrix(head, floats, reals, imags),
+        TRANSPOSE => unitaries::conj_t(reals, imags, head.n as u32),
+        _ => product(head, layout, floats, reals, imags),
+    }
+}
+
 // Whether the call answers as it should.
 fn call(
     head: Head,
@@ -75,24 +96,16 @@ fn call(
     reals: &mut [f64],
     imags: &mut [f64],
 ) -> Verdict {
-    let n = head.n as u32;
-    let kind = head.kind;
-    match kind {
-        RECORD => deliver(head, reals, imags),
-        GATE_MATRIX => {
-            let matrix = matrix_of(floats);
-            let target = head.given as u32;
-            verdict_of(unitaries::from_single_qubit_gate(reals, imags, n, target, matrix))
-        }
-        TRANSPOSE => verdict_of(unitaries::conj_t(reals, imags, n)),
-        _ => verdict_of(product(head, layout, floats, reals, imags)),
+    if head.kind == RECORD {
+        return deliver(head, reals, imags);
     }
+    verdict_of(unitary(head, layout, floats, reals, imags))
 }
 
-fn compare(layout: Layout, floats: &[f64], reals: &[f64], imags: &[f64]) -> Verdict {
-    let places = layout.places;
-    if same(reals, part(floats, layout.wanted_reals, places)) {
-        if same(imags, part(floats, layout.wanted_imags, places)) {
+// Whether both buffers are left as wanted.
+fn left(layout: Layout, floats: &[f64], reals: &[f64], imags: &[f64]) -> Verdict {
+    if same(reals, floats, layout.wanted_reals) {
+        if same(imags, floats, layout.wanted_imags) {
             return Verdict::Same;
         }
     }
@@ -107,11 +120,10 @@ fn run_case(
     reals: &mut [f64],
     imags: &mut [f64],
 ) -> Verdict {
-    let places = layout.places;
-    copy(reals, part(floats, layout.reals, places));
-    copy(imags, part(floats, layout.imags, places));
+    copy(reals, floats, layout.reals);
+    copy(imags, floats, layout.imags);
     match call(head, layout, floats, reals, imags) {
-        Verdict::Same => compare(layout, floats, reals, imags),
+        Verdict::Same => left(layout, floats, reals, imags),
         Verdict::Different => Verdict::Different,
         Verdict::Unread => Verdict::Unread,
         Verdict::End => Verdict::End,
