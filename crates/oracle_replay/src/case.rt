@@ -1,5 +1,6 @@
 // One case: its head says what is called, on how many qubits, and so how many floats follow, and where each operand stands among them.
-use crate::run::read_and_run;
+use crate::input::fill;
+use crate::run::run_case;
 use libc::STDIN_FILENO;
 
 pub(crate) enum Verdict {
@@ -38,6 +39,9 @@ pub(crate) const PRODUCT: u8 = 4;
 
 const STATE_PRODUCT: u8 = 5;
 
+// A record stands in as many bytes as the longest has.
+pub(crate) const SLOT: u8 = 94;
+
 // No sampled state has more qubits.
 const MOST_QUBITS: u8 = 6;
 
@@ -66,9 +70,18 @@ fn with_places(head: Head, first: usize, places: usize) -> Verdict {
         end,
     };
     let mut floats = [0.0; 384];
+    if !fill(&mut floats, end) {
+        return Verdict::Unread;
+    }
     let mut left_reals = [0.0; MOST_PLACES];
     let mut left_imags = [0.0; MOST_PLACES];
-    read_and_run(head, layout, &mut floats, &mut left_reals, &mut left_imags)
+    run_case(
+        head,
+        layout,
+        &floats,
+        &mut left_reals[0..places],
+        &mut left_imags[0..places],
+    )
 }
 
 fn sized_case(head: Head) -> Verdict {
@@ -80,7 +93,12 @@ fn sized_case(head: Head) -> Verdict {
     let all: usize = 1 << (n + n);
     let kind = head.kind;
     match kind {
-        RECORD => with_places(head, 0, side),
+        RECORD => {
+            if head.length <= SLOT {
+                return with_places(head, 0, side);
+            }
+            Verdict::Unread
+        }
         GATE_MATRIX => with_places(head, 4, all),
         TRANSPOSE => with_places(head, 0, all),
         PRODUCT => with_places(head, all, all),

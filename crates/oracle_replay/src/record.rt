@@ -1,5 +1,6 @@
 // The record of a case, delivered to a new session.
 use crate::case::Head;
+use crate::case::SLOT;
 use crate::case::Verdict;
 use libc::STDIN_FILENO;
 use sessions::Reply;
@@ -8,9 +9,6 @@ use sessions::Started;
 
 // The sampled records are the first of this session.
 const NUMBER: u32 = 7;
-
-// A record stands in as many bytes as the longest has.
-const SLOT: usize = 94;
 
 // A value's answer is told as 32 and the value.
 const VALUE: u8 = 32;
@@ -39,21 +37,27 @@ fn told_of(n: u8, bytes: &[u8], reals: &mut [f64], imags: &mut [f64]) -> u8 {
 }
 
 // The record is the slot's first bytes.
-fn deliver_slot(head: Head, slot: &[u8], reals: &mut [f64], imags: &mut [f64]) -> Verdict {
-    let length = head.length as usize;
+fn record_in(slot: &[u8], length: usize) -> &[u8] {
     if slot.len() < length {
+        return slot;
+    }
+    &slot[0..length]
+}
+
+fn judged(got: usize, told: u8, given: u8) -> Verdict {
+    if got < SLOT as usize {
         return Verdict::Unread;
     }
-    if told_of(head.n, &slot[..length], reals, imags) == head.given {
+    if told == given {
         return Verdict::Same;
     }
     Verdict::Different
 }
 
 pub(crate) fn deliver(head: Head, reals: &mut [f64], imags: &mut [f64]) -> Verdict {
-    let mut slot = [0u8; SLOT];
-    if io::read_full(STDIN_FILENO, &mut slot) < SLOT {
-        return Verdict::Unread;
-    }
-    deliver_slot(head, &slot, reals, imags)
+    let mut slot = [0u8; 94];
+    let got = io::read_full(STDIN_FILENO, &mut slot);
+    let bytes = record_in(&slot, head.length as usize);
+    let told = told_of(head.n, bytes, reals, imags);
+    judged(got, told, head.given)
 }

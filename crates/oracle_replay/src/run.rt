@@ -9,7 +9,6 @@ use crate::case::Verdict;
 use crate::floats::copy;
 use crate::floats::part;
 use crate::floats::same;
-use crate::input::fill;
 use crate::record::deliver;
 use book::Amplitude;
 use book::Answer;
@@ -72,7 +71,14 @@ fn gate_matrix(head: Head, floats: &[f64], reals: &mut [f64], imags: &mut [f64])
     unitaries::from_single_qubit_gate(reals, imags, head.n as u32, head.given as u32, matrix)
 }
 
-// A call of unitaries.rs.
+// One matrix is changed in place.
+fn one_matrix(head: Head, floats: &[f64], reals: &mut [f64], imags: &mut [f64]) -> Answer {
+    if head.kind == GATE_MATRIX {
+        return gate_matrix(head, floats, reals, imags);
+    }
+    unitaries::conj_t(reals, imags, head.n as u32)
+}
+
 fn unitary(
     head: Head,
     layout: Layout,
@@ -80,12 +86,10 @@ fn unitary(
     reals: &mut [f64],
     imags: &mut [f64],
 ) -> Answer {
-    let kind = head.kind;
-    match kind {
-        GATE_MATRIX => gate_matrix(head, floats, reals, imags),
-        TRANSPOSE => unitaries::conj_t(reals, imags, head.n as u32),
-        _ => product(head, layout, floats, reals, imags),
+    if head.kind <= TRANSPOSE {
+        return one_matrix(head, floats, reals, imags);
     }
+    product(head, layout, floats, reals, imags)
 }
 
 // Whether the call answers as it should.
@@ -102,8 +106,17 @@ fn call(
     verdict_of(unitary(head, layout, floats, reals, imags))
 }
 
-// Whether both buffers are left as wanted.
-fn left(layout: Layout, floats: &[f64], reals: &[f64], imags: &[f64]) -> Verdict {
+// Whether both buffers are left as wanted, by a call that answers as it should.
+fn left(
+    answered: Verdict,
+    layout: Layout,
+    floats: &[f64],
+    reals: &[f64],
+    imags: &[f64],
+) -> Verdict {
+    let Verdict::Same = answered else {
+        return answered;
+    };
     if same(reals, floats, layout.wanted_reals) {
         if same(imags, floats, layout.wanted_imags) {
             return Verdict::Same;
@@ -113,7 +126,7 @@ fn left(layout: Layout, floats: &[f64], reals: &[f64], imags: &[f64]) -> Verdict
 }
 
 // The second operand is put where the call changes it; a product writes over it.
-fn run_case(
+pub(crate) fn run_case(
     head: Head,
     layout: Layout,
     floats: &[f64],
@@ -122,36 +135,6 @@ fn run_case(
 ) -> Verdict {
     copy(reals, floats, layout.reals);
     copy(imags, floats, layout.imags);
-    match call(head, layout, floats, reals, imags) {
-        Verdict::Same => left(layout, floats, reals, imags),
-        Verdict::Different => Verdict::Different,
-        Verdict::Unread => Verdict::Unread,
-        Verdict::End => Verdict::End,
-    }
-}
-
-pub(crate) fn read_and_run(
-    head: Head,
-    layout: Layout,
-    floats: &mut [f64],
-    reals: &mut [f64],
-    imags: &mut [f64],
-) -> Verdict {
-    if !fill(floats, layout.end) {
-        return Verdict::Unread;
-    }
-    let places = layout.places;
-    if reals.len() < places {
-        return Verdict::Unread;
-    }
-    if imags.len() < places {
-        return Verdict::Unread;
-    }
-    run_case(
-        head,
-        layout,
-        floats,
-        &mut reals[..places],
-        &mut imags[..places],
-    )
+    let answered = call(head, layout, floats, reals, imags);
+    left(answered, layout, floats, reals, imags)
 }
