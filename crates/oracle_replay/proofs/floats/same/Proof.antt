@@ -1,15 +1,15 @@
--- `oracle_replay::run::same` is safe and ends: the places left fall. Assumes nothing.
+-- `oracle_replay::floats::same` is safe and ends: the places left fall. Assumes nothing.
 use Prim.Native.Nat.{_≤_, _-_}
 use lib.ListN.{length}
 use borrow.Author.Needs.{needs}
-use Rattle.oracle_replay.proofs.run.same.Statement.{statement}
-use Rattle.oracle_replay.proofs.run.same.Tie as tie
+use Rattle.oracle_replay.proofs.floats.same.Statement.{statement}
+use Rattle.oracle_replay.proofs.floats.same.Tie as tie
 
 abbrev Inv-loop : tie.InvT-loop
-Inv-loop a b i₀ i = i ≤ length a
+Inv-loop found floats at from₀ i₀ from i = i ≤ length found
 
 abbrev μ-loop : tie.MeasureT-loop
-μ-loop a b i₀ i = length a - i
+μ-loop found floats at from₀ i₀ from i = length found - i
 
 pub same-spec : {M : Type 1} → statement M
 same-spec =
@@ -25,6 +25,7 @@ same-spec =
     (λ c. search needs)
     (λ c. search needs)
     (λ c κs. search needs)
+    (λ c. search needs)
     (λ c. search needs)
     (λ c. search needs)
     (λ c. search needs)
