@@ -7,7 +7,7 @@ use rules::Rule;
 ghost use Rattle.book.specs.Lent.{before, after, here};
 ghost use Rattle.book.specs.State.{at};
 ghost use Rattle.rules.specs.Rules.{ruleOf};
-ghost use Rattle.state.specs.Pairs.{TwoPlaces, Stepped, SameSize, Keyed, Swept};
+ghost use Rattle.pairs.specs.Pairs.{TwoPlaces, Stepped, SameSize, Keyed, Swept};
 
 fn step(
     reals: &mut [f64],

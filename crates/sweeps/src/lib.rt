@@ -20,7 +20,7 @@ ghost use Rattle.book.specs.Gates.{pairGate};
 ghost use Rattle.book.specs.Kernels.{kernel, swap};
 ghost use Rattle.book.specs.Lent.{before, after, here};
 ghost use Rattle.rules.specs.Rules.{ruleOf};
-ghost use Rattle.state.specs.Pairs.{Keyed, Swept};
+ghost use Rattle.pairs.specs.Pairs.{Keyed, Swept};
 
 // A mask has 32 bits.
 const ANY: u32 = 32;

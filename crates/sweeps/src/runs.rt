@@ -9,8 +9,8 @@ use rules::put_quick;
 ghost use Prim.Native.Nat.{_+_, _-_};
 ghost use Rattle.book.specs.Lent.{before, after, here};
 ghost use Rattle.rules.specs.Rules.{quickOf};
-ghost use Rattle.state.specs.Pairs.{Swept};
-ghost use Rattle.state.specs.Runs.{Run, Ran, Runs};
+ghost use Rattle.pairs.specs.Pairs.{Swept};
+ghost use Rattle.pairs.specs.Runs.{Run, Ran, Runs};
 
 // One pair at a turn, at each stride-th place.
 fn along(

@@ -18,12 +18,12 @@ use Rattle.book.specs.State.{State, amplitude, at, bit, chosen}
 use Rattle.book.specs.declared.Amplitude.{Amplitude}
 use Rattle.book.specs.declared.Angle.{Angle}
 use Rattle.rules.specs.Rules.{upperOf}
-use Rattle.state.specs.Judging.{Seated}
-use Rattle.state.specs.Pairs.{SameSize, Turned, Has}
-use Rattle.state.proofs.Bits.{or-ge, or-covers, next-least, next-block, next-block-least}
-use Rattle.state.proofs.Halves.{turn-same, Walked, walk-starts, walk-steps, walk-skips, walk-ends, Blocks, blocks-start, blocks-skip, blocks-room, blocks-steps}
-use Rattle.state.proofs.Keys.{key-ge}
-use Rattle.state.proofs.Lending.{lent, returned, lent-reals}
+use Rattle.pairs.specs.Judging.{Seated}
+use Rattle.pairs.specs.Pairs.{SameSize, Turned, Has}
+use Rattle.pairs.proofs.Bits.{or-ge, or-covers, next-least, next-block, next-block-least}
+use Rattle.pairs.proofs.Halves.{turn-same, Walked, walk-starts, walk-steps, walk-skips, walk-ends, Blocks, blocks-start, blocks-skip, blocks-room, blocks-steps}
+use Rattle.pairs.proofs.Keys.{key-ge}
+use Rattle.pairs.proofs.Lending.{lent, returned, lent-reals}
 use Rattle.uppers.specs.Uppers.{masked, turnedAt}
 
 module _ (ones upper : ℕ) (angle : Angle) (i : ℕ) where

@@ -1,7 +1,7 @@
 -- `sweeps::exchange` meets its contract: judged, then the pairs of the keys that have both bits swept by X. Assumes nothing.
 use native.Mathlib.Omega.{arith}
 use borrow.Author.Needs.{needs}
-use Rattle.state.proofs.Calls as S
+use Rattle.pairs.proofs.Calls as S
 use Rattle.sweeps.proofs.exchange.Statement.{statement}
 use Rattle.sweeps.proofs.exchange.Tie as tie
 

@@ -1,7 +1,7 @@
 -- `sweeps::on_pairs` meets its contract: judged, then swept. Assumes nothing.
 use native.Mathlib.Omega.{arith}
 use borrow.Author.Needs.{needs}
-use Rattle.state.proofs.Judged as J
+use Rattle.pairs.proofs.Judged as J
 use Rattle.sweeps.proofs.on_pairs.Statement.{statement}
 use Rattle.sweeps.proofs.on_pairs.Tie as tie
 

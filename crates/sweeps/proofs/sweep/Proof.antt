@@ -5,8 +5,8 @@ use native.Mathlib.Omega.{arith}
 use borrow.Author.Needs.{needs}
 use Rattle.rules.proofs.Quick.{quick-rule}
 use Rattle.rules.specs.Rules.{ruleOf, codeOf, quickOf}
-use Rattle.state.proofs.Keys.{size-is}
-use Rattle.state.proofs.Whole as W
+use Rattle.pairs.proofs.Keys.{size-is}
+use Rattle.pairs.proofs.Whole as W
 use Rattle.sweeps.proofs.sweep.Statement.{statement}
 use Rattle.sweeps.proofs.sweep.Tie as tie
 

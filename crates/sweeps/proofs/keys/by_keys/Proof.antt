@@ -3,8 +3,8 @@ use Prim.Native.Nat.{_+_, _-_, _^_, _<_}
 use native.Mathlib.Omega.{arith}
 use Rattle.book.specs.Answers.{buffers}
 use Rattle.rules.specs.Rules.{ruleOf}
-use Rattle.state.proofs.Bits.{or-ge}
-use Rattle.state.proofs.Keys.{Upto, size-is, small, starts, reach, asked, steps, ends}
+use Rattle.pairs.proofs.Bits.{or-ge}
+use Rattle.pairs.proofs.Keys.{Upto, size-is, small, starts, reach, asked, steps, ends}
 use Rattle.sweeps.proofs.keys.by_keys.Statement.{statement}
 use Rattle.sweeps.proofs.keys.by_keys.Tie as tie
 

@@ -1,7 +1,7 @@
 -- `sweeps::step` meets its contract: read, rule, write. Assumes nothing.
 use borrow.Author.Needs.{needs}
 use Rattle.rules.specs.Rules.{ruleOf}
-use Rattle.state.proofs.Buffers.{stepped}
+use Rattle.pairs.proofs.Buffers.{stepped}
 use Rattle.sweeps.proofs.keys.step.Statement.{statement}
 use Rattle.sweeps.proofs.keys.step.Tie as tie
 

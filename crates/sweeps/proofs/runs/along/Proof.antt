@@ -4,8 +4,8 @@ use native.Mathlib.Omega.{arith}
 use borrow.Author.Needs.{needs}
 use Rattle.book.specs.Answers.{buffers}
 use Rattle.rules.specs.Rules.{quickOf}
-use Rattle.state.proofs.Buffers.{stepped}
-use Rattle.state.proofs.Spaced.{Walk, walk-starts, walk-ends, one-room, one-asks, one-steps}
+use Rattle.pairs.proofs.Buffers.{stepped}
+use Rattle.pairs.proofs.Spaced.{Walk, walk-starts, walk-ends, one-room, one-asks, one-steps}
 use Rattle.sweeps.proofs.runs.along.Statement.{statement}
 use Rattle.sweeps.proofs.runs.along.Tie as tie
 

@@ -4,7 +4,7 @@ use native.Mathlib.Omega.{arith}
 use borrow.Author.Needs.{needs}
 use Rattle.book.specs.Answers.{buffers}
 use Rattle.rules.specs.Rules.{quickOf}
-use Rattle.state.proofs.Spaced.{Walk, walk-starts, walk-ends, two-room-next, two-asks, two-asks-next, two-asks-four, two-steps}
+use Rattle.pairs.proofs.Spaced.{Walk, walk-starts, walk-ends, two-room-next, two-asks, two-asks-next, two-asks-four, two-steps}
 use Rattle.sweeps.proofs.runs.by_twos.Statement.{statement}
 use Rattle.sweeps.proofs.runs.by_twos.Tie as tie
 

@@ -3,8 +3,8 @@ use Prim.Native.Nat.{_+_, _-_, _^_, _<_}
 use native.Mathlib.Omega.{arith}
 use Rattle.book.specs.Answers.{buffers}
 use Rattle.rules.specs.Rules.{quickOf}
-use Rattle.state.proofs.Bits.{or-ge}
-use Rattle.state.proofs.Turns.{Turns, Numbers, numbers, turns-start, turns-ask, turns-step, turns-end, stride-pos}
+use Rattle.pairs.proofs.Bits.{or-ge}
+use Rattle.pairs.proofs.Turns.{Turns, Numbers, numbers, turns-start, turns-ask, turns-step, turns-end, stride-pos}
 use Rattle.sweeps.proofs.runs.runs.Statement.{statement}
 use Rattle.sweeps.proofs.runs.runs.Tie as tie
 

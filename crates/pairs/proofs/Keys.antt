@@ -7,10 +7,10 @@ use lib.Bits.{bitOr, and-self, and-le-l}
 use Rattle.book.specs.Answers.{Buffers}
 use Rattle.book.specs.State.{at}
 use Rattle.book.specs.declared.Pair.{Pair}
-use Rattle.state.specs.Pairs.{TwoPlaces, Stepped, SameSize, Apart, Paired, Has, Keyed, Swept}
-use Rattle.state.proofs.Bits.{or-ge, or-covers, next-least}
-use Rattle.state.proofs.Loop.{nothing, one, join}
-use Rattle.state.proofs.Shifts.{shl, shl-is, pow-le}
+use Rattle.pairs.specs.Pairs.{TwoPlaces, Stepped, SameSize, Apart, Paired, Has, Keyed, Swept}
+use Rattle.pairs.proofs.Bits.{or-ge, or-covers, next-least}
+use Rattle.pairs.proofs.Loop.{nothing, one, join}
+use Rattle.judging.proofs.Shifts.{shl, shl-is, pow-le}
 
 pub key-ge : (fixed w : ℕ) → Has fixed w → fixed ≤ w
 key-ge fixed w k = omega (arith, and-le-l w fixed)

@@ -14,11 +14,11 @@ use Rattle.book.specs.State.{State, amplitude, at, bit, chosen, half, choice, p
 use Rattle.book.specs.declared.Amplitude.{Amplitude}
 use Rattle.book.specs.declared.Controls.{Controls}
 use Rattle.book.specs.declared.Pair.{Pair}
-use Rattle.state.specs.Judging.{Seated}
-use Rattle.state.specs.Pairs.{SameSize, Turned}
-use Rattle.state.proofs.Buffers.{held-ext}
-use Rattle.state.proofs.Lending.{lent, returned, lent-reals, lent-place, back-same, back-inside, back-before, back-after}
-use Rattle.state.proofs.Blocks.{Base, room, low, high as upper}
+use Rattle.judging.specs.Judging.{Seated}
+use Rattle.pairs.specs.Pairs.{SameSize, Turned}
+use Rattle.pairs.proofs.Buffers.{held-ext}
+use Rattle.pairs.proofs.Lending.{lent, returned, lent-reals, lent-place, back-same, back-inside, back-before, back-after}
+use Rattle.pairs.proofs.Blocks.{Base, room, low, high as upper}
 
 module _ (f : ℕ → Amplitude → Amplitude) where
   -- no place yet

@@ -1,13 +1,14 @@
-// One pair of amplitudes, read and written back by value; two of them written at once.
+// The laws of the pairs that a target and its controls choose, in proofs/; and one pair of amplitudes read and written by value, or two written at once.
+// An inner room: its functions ask for places that are there, and their callers are proved.
 use book::Amplitude;
 use book::Pair;
 ghost use mathlib.Core.Path.{_≡_};
 ghost use Rattle.book.specs.Lent.{before, after, here};
 ghost use Rattle.book.specs.State.{at};
-ghost use Rattle.state.specs.Pairs.{TwoPlaces, pairAt, Stepped, SameSize};
-ghost use Rattle.state.specs.Runs.{FourPlaces, WrittenTwo};
+ghost use Rattle.pairs.specs.Pairs.{TwoPlaces, pairAt, Stepped, SameSize};
+ghost use Rattle.pairs.specs.Runs.{FourPlaces, WrittenTwo};
 
-pub(crate) fn read_pair(reals: &[f64], imags: &[f64], s0: usize, s1: usize) -> Pair
+pub fn read_pair(reals: &[f64], imags: &[f64], s0: usize, s1: usize) -> Pair
     requires { ⌜ TwoPlaces (here reals imags) s0 s1 ⌝ }
     ensures { λ r. ⌜ r ≡ pairAt (before reals imags) s0 s1 ⌝ }
 {
@@ -23,7 +24,7 @@ pub(crate) fn read_pair(reals: &[f64], imags: &[f64], s0: usize, s1: usize) -> P
     }
 }
 
-pub(crate) fn write_pair(reals: &mut [f64], imags: &mut [f64], s0: usize, s1: usize, p: Pair)
+pub fn write_pair(reals: &mut [f64], imags: &mut [f64], s0: usize, s1: usize, p: Pair)
     requires { ⌜ TwoPlaces (here reals imags) s0 s1 ⌝ }
     ensures { λ _. ⌜ Stepped (λ q. p) s0 s1 (at (before reals imags)) (at (after reals imags)) × SameSize (before reals imags) (after reals imags) ⌝ }
 {
@@ -36,7 +37,7 @@ pub(crate) fn write_pair(reals: &mut [f64], imags: &mut [f64], s0: usize, s1: us
 }
 
 // Two pairs that lie stride apart. One buffer's stores stand together, so that the compiler can join those to neighbours.
-pub(crate) fn write_two(
+pub fn write_two(
     reals: &mut [f64],
     imags: &mut [f64],
     s0: usize,

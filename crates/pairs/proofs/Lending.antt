@@ -9,7 +9,7 @@ use lib.ListN.{length, getD, take, drop, length-append, length-drop, List·getD-
 use lib.Seq.{getD-take, getD-drop, getD-append-add, length-take-le}
 use Rattle.book.specs.Answers.{Buffers, buffers}
 use Rattle.book.specs.State.{amplitude, at}
-use Rattle.state.specs.Pairs.{SameSize}
+use Rattle.pairs.specs.Pairs.{SameSize}
 
 -- ---- one list: xs with ys in the place of the k elements from a on
 module _ {A : Type 0} (xs ys : List A) (a k : ℕ) (d : A) (fits : a + k ≤ length xs) (part : length ys ≡ k) where

@@ -6,7 +6,7 @@ use native.Mathlib.Nat.{pow-suc, mul-assoc, mul-comm, add-mul, one-mul, le-of-mu
 use native.Mathlib.Omega.{arith}
 use lib.Count.{trailingZeros, under}
 use lib.Pow.{pow-pos, pow-add, pow-mono}
-use Rattle.state.specs.Runs.{Cut}
+use Rattle.pairs.specs.Runs.{Cut}
 
 -- ---- the power of 2 below a number's lowest bit divides it
 trailing-divides : (k x : ℕ) → (z : ℕ) × (x ≡ z * 2 ^ trailingZeros k x)

@@ -1,8 +1,8 @@
--- `sweeps::write_pair` meets its contract: four stores to two places. Assumes nothing.
+-- `pairs::write_pair` meets its contract: four stores to two places. Assumes nothing.
 use borrow.Author.Needs.{needs}
-use Rattle.state.proofs.Buffers.{written}
-use Rattle.sweeps.proofs.pairs.write_pair.Statement.{statement}
-use Rattle.sweeps.proofs.pairs.write_pair.Tie as tie
+use Rattle.pairs.proofs.Buffers.{written}
+use Rattle.pairs.proofs.write_pair.Statement.{statement}
+use Rattle.pairs.proofs.write_pair.Tie as tie
 
 pub write-pair-spec : {M : Type 1} → statement M
 write-pair-spec =

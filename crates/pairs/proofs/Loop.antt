@@ -7,7 +7,7 @@ use native.Mathlib.Decide.{decLt}
 use native.Mathlib.Omega.{arith}
 use Rattle.book.specs.State.{State, pair}
 use Rattle.book.specs.declared.Pair.{Pair}
-use Rattle.state.specs.Pairs.{Stepped, Apart, Paired}
+use Rattle.pairs.specs.Pairs.{Stepped, Apart, Paired}
 
 module _ (rule : Pair → Pair) (Key : ℕ → Type 0) (s0 s1 : ℕ → ℕ) where
   -- a stretch with no key

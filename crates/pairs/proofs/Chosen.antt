@@ -12,10 +12,10 @@ use Rattle.book.specs.Answers.{Buffers}
 use Rattle.book.specs.State.{State, at, bit, chosen, choice, pair, placed, onPairs}
 use Rattle.book.specs.declared.Controls.{Controls}
 use Rattle.book.specs.declared.Pair.{Pair}
-use Rattle.state.specs.Judging.{Seated}
-use Rattle.state.specs.Pairs.{Has, Paired, Keyed, Swept}
-use Rattle.state.proofs.Bits.{halves, bit-up, bit-le, bit-before, bit-down, up-lt, has-set, set-has, and-up}
-use Rattle.state.proofs.Buffers.{held-ext}
+use Rattle.judging.specs.Judging.{Seated}
+use Rattle.pairs.specs.Pairs.{Has, Paired, Keyed, Swept}
+use Rattle.pairs.proofs.Bits.{halves, bit-up, bit-le, bit-before, bit-down, up-lt, has-set, set-has, and-up}
+use Rattle.pairs.proofs.Buffers.{held-ext}
 
 pub by-bool : {P : Type 0} (b : Bool) → (b ≡ true → P) → (b ≡ false → P) → P
 by-bool true f g = f refl

@@ -1,10 +1,10 @@
--- `sweeps::write_two` meets its contract: eight stores to four places. Assumes nothing.
+-- `pairs::write_two` meets its contract: eight stores to four places. Assumes nothing.
 use native.Mathlib.Omega.{arith}
 use borrow.Author.Needs.{needs}
 use lib.ListN.{length-set}
-use Rattle.state.proofs.Spaced.{written-two}
-use Rattle.sweeps.proofs.pairs.write_two.Statement.{statement}
-use Rattle.sweeps.proofs.pairs.write_two.Tie as tie
+use Rattle.pairs.proofs.Spaced.{written-two}
+use Rattle.pairs.proofs.write_two.Statement.{statement}
+use Rattle.pairs.proofs.write_two.Tie as tie
 
 pub write-two-spec : {M : Type 1} → statement M
 write-two-spec =

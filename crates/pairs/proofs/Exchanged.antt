@@ -1,4 +1,4 @@
--- SWAP: the pairs that it exchanges are those of the keys that have both bits, and exchanged twice every place is itself. Assumes nothing.
+-- SWAP: the pairs that it exchanges are those of the keys that have both bits. Assumes nothing.
 use Prim.Native.Nat.{ℕ, _+_, _-_, _^_, _≤_, _<_}
 use mathlib.Core.Logic.{⊎-elim}
 use mathlib.Core.Path.{_≡_, sym, ap, _∙_, subst}
@@ -9,9 +9,9 @@ use Rattle.book.specs.Answers.{Buffers}
 use Rattle.book.specs.Gates.{xRule}
 use Rattle.book.specs.Kernels.{exchanged, swapped}
 use Rattle.book.specs.State.{State, at, bit}
-use Rattle.state.specs.Pairs.{Has, Paired, Keyed, Swept}
-use Rattle.state.proofs.Bits.{halves, bit-up, bit-le, bit-before, up-lt, has-set, set-has, bit-pow, bit-of-and, and-of-bit, bit-other}
-use Rattle.state.proofs.Buffers.{held-ext, held-same}
+use Rattle.pairs.specs.Pairs.{Has, Paired, Keyed, Swept}
+use Rattle.pairs.proofs.Bits.{halves, bit-up, bit-le, bit-before, up-lt, has-set, set-has, bit-pow, bit-of-and, and-of-bit, bit-other}
+use Rattle.pairs.proofs.Buffers.{held-ext, held-same}
 
 -- ---- the exchanged index, by the two bits
 module _ (t u i : ℕ) where
@@ -26,51 +26,6 @@ module _ (t u i : ℕ) where
 
   pub exchanged-sym : exchanged t u i ≡ exchanged u t i
   exchanged-sym = omega arith
-
--- a bit moved from t to u
-module _ (t u i : ℕ) (ne : t ≡ u → ⊥) (o : bit t i ≡ 1) (z : bit u i ≡ 0) where
-  moved : i + 2 ^ u - 2 ^ t + 2 ^ t ≡ i + 2 ^ u
-  moved = omega (arith, bit-le t i o)
-
-  pub moved-from : bit t (i + 2 ^ u - 2 ^ t) ≡ 0
-  moved-from = bit-before t (i + 2 ^ u - 2 ^ t) (ap (bit t) moved ∙ bit-other u t i (λ e. ne (sym e)) z ∙ o)
-
-  pub moved-to : bit u (i + 2 ^ u - 2 ^ t) ≡ 1
-  moved-to = sym (bit-other t u (i + 2 ^ u - 2 ^ t) ne moved-from) ∙ ap (bit u) moved ∙ bit-up u i z
-
--- ---- twice
-module _ (t u : ℕ) (ne : t ≡ u → ⊥) (i : ℕ) where
-  pub exchanged-twice : exchanged t u (exchanged t u i) ≡ i
-  exchanged-twice =
-      ⊎-elim
-      (λ z. ⊎-elim
-      (λ y. ap (exchanged t u) (exchanged-same t u i (z ∙ sym y)) ∙ exchanged-same t u i (z ∙ sym y))
-      (λ o.
-      let e : exchanged t u i ≡ i + 2 ^ t - 2 ^ u = exchanged-back t u i z o in
-      let j : ℕ = i + 2 ^ t - 2 ^ u in
-      ap (exchanged t u) e ∙ exchanged-other t u j (moved-to u t i (λ q. ne (sym q)) o z) (moved-from u t i (λ q. ne (sym q)) o z) ∙ omega (arith, bit-le u i o))
-      (halves u i))
-      (λ o. ⊎-elim
-      (λ z.
-      let e : exchanged t u i ≡ i + 2 ^ u - 2 ^ t = exchanged-other t u i o z in
-      let j : ℕ = i + 2 ^ u - 2 ^ t in
-      ap (exchanged t u) e ∙ exchanged-back t u j (moved-from t u i ne o z) (moved-to t u i ne o z) ∙ omega (arith, bit-le t i o))
-      (λ p. ap (exchanged t u) (exchanged-same t u i (o ∙ sym p)) ∙ exchanged-same t u i (o ∙ sym p))
-      (halves u i))
-      (halves t i)
-
-  pub exchanged-lt : (n : ℕ) → t < n → u < n → i < 2 ^ n → exchanged t u i < 2 ^ n
-  exchanged-lt n a b l =
-      ⊎-elim
-      (λ z. ⊎-elim
-      (λ y. omega (arith, exchanged-same t u i (z ∙ sym y)))
-      (λ o. omega (arith, exchanged-back t u i z o, up-lt n t i a l z))
-      (halves u i))
-      (λ o. ⊎-elim
-      (λ z. omega (arith, exchanged-other t u i o z, up-lt n u i b l z))
-      (λ p. omega (arith, exchanged-same t u i (o ∙ sym p)))
-      (halves u i))
-      (halves t i)
 
 -- ---- the keys that have both bits, t below u
 module _ (t u : ℕ) (less : t < u) where

@@ -9,7 +9,7 @@ use lib.Seq.{getD-set-same, getD-set-other}
 use Rattle.book.specs.Answers.{Buffers, buffers}
 use Rattle.book.specs.State.{State, amplitude, at, held, pair}
 use Rattle.book.specs.declared.Pair.{Pair}
-use Rattle.state.specs.Pairs.{TwoPlaces, Stepped, SameSize}
+use Rattle.pairs.specs.Pairs.{TwoPlaces, Stepped, SameSize}
 use Rattle.book.proofs.Lengths.{tabulate-length}
 pub use Rattle.book.proofs.Tables.{held-only as held-ext, at-held}
 

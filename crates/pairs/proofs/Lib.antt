@@ -1,15 +1,13 @@
 -- The laws under the kernels, by subject.
-pub mod Shifts
 pub mod Bits
 pub mod Loop
 pub mod Keys
 pub mod Buffers
 pub mod Chosen
 pub mod Exchanged
-pub mod Finite
-pub mod Refusals
-pub mod Answers
-pub mod Judged
+pub mod Gate
+pub mod Swap
+pub mod Flip
 pub mod Spaced
 pub mod Cuts
 pub mod Lending
@@ -17,6 +15,4 @@ pub mod Turns
 pub mod Whole
 pub mod Blocks
 pub mod Halves
-pub mod Free
-pub mod Calls
 pub mod Twice

@@ -5,7 +5,7 @@ use lib.ListN.{length}
 use Rattle.book.specs.Answers.{Buffers}
 use Rattle.book.specs.State.{State, at}
 use Rattle.book.specs.declared.Pair.{Pair}
-use Rattle.state.specs.Pairs.{SameSize, Paired, Keyed}
+use Rattle.pairs.specs.Pairs.{SameSize, Paired, Keyed}
 
 -- ---- the lent part: its pairs are at i and i + d, for each stride-th i below run
 

@@ -13,15 +13,15 @@ use lib.Pow.{pow-pos, pow-mono, split, high}
 use Rattle.book.specs.Answers.{Buffers}
 use Rattle.book.specs.State.{at, pair}
 use Rattle.book.specs.declared.Pair.{Pair}
-use Rattle.state.specs.Pairs.{SameSize, Paired, Has, Swept}
-use Rattle.state.specs.Runs.{Spaced, Run, Ran, Cut, Runs}
-use Rattle.state.proofs.Bits.{or-ge, or-covers, next-block, next-block-least}
-use Rattle.state.proofs.Cuts.{pow-split}
-use Rattle.state.proofs.Keys.{key-ge, apart}
-use Rattle.state.proofs.Lending.{lent, returned, lent-reals, lent-imags, lent-place, back-same, back-inside, back-before, back-after}
-use Rattle.state.proofs.Loop.{nothing, join, Same, Same′, renumber}
-use Rattle.state.proofs.Shifts.{pow-le}
-use Rattle.state.proofs.Spaced.{gap, halved}
+use Rattle.pairs.specs.Pairs.{SameSize, Paired, Has, Swept}
+use Rattle.pairs.specs.Runs.{Spaced, Run, Ran, Cut, Runs}
+use Rattle.pairs.proofs.Bits.{or-ge, or-covers, next-block, next-block-least}
+use Rattle.pairs.proofs.Cuts.{pow-split}
+use Rattle.pairs.proofs.Keys.{key-ge, apart}
+use Rattle.pairs.proofs.Lending.{lent, returned, lent-reals, lent-imags, lent-place, back-same, back-inside, back-before, back-after}
+use Rattle.pairs.proofs.Loop.{nothing, join, Same, Same′, renumber}
+use Rattle.judging.proofs.Shifts.{pow-le}
+use Rattle.pairs.proofs.Spaced.{gap, halved}
 
 -- ---- which numbers of a run are keys
 module _ {n wide run stride : ℕ} (c : Cut n wide run stride) where

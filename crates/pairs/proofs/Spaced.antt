@@ -12,9 +12,9 @@ use lib.Seq.{getD-set-same, getD-set-other}
 use Rattle.book.specs.Answers.{Buffers, buffers}
 use Rattle.book.specs.State.{State, amplitude, at, pair}
 use Rattle.book.specs.declared.Pair.{Pair}
-use Rattle.state.specs.Pairs.{TwoPlaces, pairAt, Stepped, SameSize, Apart, Paired}
-use Rattle.state.specs.Runs.{Spaced, Run, Ran, FourPlaces, WrittenTwo}
-use Rattle.state.proofs.Loop.{nothing, one, join}
+use Rattle.pairs.specs.Pairs.{TwoPlaces, pairAt, Stepped, SameSize, Apart, Paired}
+use Rattle.pairs.specs.Runs.{Spaced, Run, Ran, FourPlaces, WrittenTwo}
+use Rattle.pairs.proofs.Loop.{nothing, one, join}
 
 -- two multiples of s are s apart
 pub gap : (s i j : ℕ) → i % s ≡ 0 → j % s ≡ 0 → i < j → i + s ≤ j
@@ -54,9 +54,6 @@ module _ {A : Type 0} (l : List A) (s0 s1 k : ℕ) (x y z w d : A) (order : s0 <
 
   n3 : length l3 ≡ length l
   n3 = simp length-set
-
-  pub four-length : length l4 ≡ length l
-  four-length = simp length-set
 
   pub four-other : (i : ℕ) → (i ≡ s0 → ⊥) → (i ≡ s1 → ⊥) → (i ≡ s0 + k → ⊥) → (i ≡ s1 + k → ⊥) → getD l4 i d ≡ getD l i d
   four-other i a b e f = getD-set-other l3 (s1 + k) i w d f ∙ getD-set-other l2 s1 i z d b ∙ getD-set-other l1 (s0 + k) i y d e ∙ getD-set-other l s0 i x d a
