@@ -9,7 +9,7 @@ use lib.Seq.{getD-set-same, getD-set-other}
 use Rattle.book.specs.Answers.{Buffers, buffers}
 use Rattle.book.specs.State.{State, amplitude, at, held, pair}
 use Rattle.book.specs.declared.Pair.{Pair}
-use Rattle.pairs.specs.Pairs.{TwoPlaces, Stepped, SameSize}
+use Rattle.pairs.specs.Pairs.{TwoPlaces, PairPut, SameSize}
 use Rattle.book.proofs.Lengths.{tabulate-length}
 pub use Rattle.book.proofs.Tables.{held-only as held-ext, at-held}
 
@@ -27,7 +27,7 @@ module _ {A : Type 0} (l : List A) (s0 s1 : ℕ) (x y d : A) where
 -- a pair written to two places of both buffers
 pub written : (b : Buffers) (s0 s1 : ℕ) (p : Pair) → TwoPlaces b s0 s1
     → let b′ = buffers (set (set (b .reals) s0 (p .s0 .re)) s1 (p .s1 .re)) (set (set (b .imags) s0 (p .s0 .im)) s1 (p .s1 .im)) in
-    Stepped (λ q. p) s0 s1 (at b) (at b′) × SameSize b b′
+    PairPut (λ q. p) s0 s1 (at b) (at b′) × SameSize b b′
 written b s0 s1 p ok = (
   record {
     lower = ap₂ amplitude (first (b .reals) s0 s1 _ _ nan ne (omega (arith, ok))) (first (b .imags) s0 s1 _ _ nan ne (omega (arith, ok)));
@@ -42,7 +42,7 @@ written b s0 s1 p ok = (
 
 -- a step of the code: read, rule, write
 pub stepped : (rule : Pair → Pair) {s s′ : State} {s0 s1 : ℕ} {p q : Pair}
-    → p ≡ pair (s s0) (s s1) → q ≡ rule p → Stepped (λ z. q) s0 s1 s s′ → Stepped rule s0 s1 s s′
+    → p ≡ pair (s s0) (s s1) → q ≡ rule p → PairPut (λ z. q) s0 s1 s s′ → PairPut rule s0 s1 s s′
 stepped rule e g w =
     record {
       lower = w .lower ∙ ap (λ (z : Pair). z .s0) (g ∙ ap rule e);

@@ -15,26 +15,26 @@ use Rattle.book.specs.declared.Amplitude.{Amplitude}
 use Rattle.book.specs.declared.Controls.{Controls}
 use Rattle.book.specs.declared.Pair.{Pair}
 use Rattle.judging.specs.Judging.{Seated}
-use Rattle.pairs.specs.Pairs.{SameSize, Turned}
+use Rattle.pairs.specs.Pairs.{SameSize, Mapped}
 use Rattle.pairs.proofs.Buffers.{held-ext}
 use Rattle.pairs.proofs.Lending.{lent, returned, lent-reals, lent-place, back-same, back-inside, back-before, back-after}
 use Rattle.pairs.proofs.Blocks.{Base, room, low, high as upper}
 
 module _ (f : ℕ → Amplitude → Amplitude) where
   -- no place yet
-  pub turn-none : (a : ℕ) (s : State) → Turned f a a s s
+  pub turn-none : (a : ℕ) (s : State) → Mapped f a a s s
   turn-none a s = record { inside = λ i x y. absurd (omega arith); before = λ i x. refl; after = λ i x. refl }
 
   -- a stretch that f leaves as it is
-  pub turn-idle : (a b : ℕ) (s : State) → ((i : ℕ) → a ≤ i → i < b → f i (s i) ≡ s i) → Turned f a b s s
+  pub turn-idle : (a b : ℕ) (s : State) → ((i : ℕ) → a ≤ i → i < b → f i (s i) ≡ s i) → Mapped f a b s s
   turn-idle a b s idle = record { inside = λ i x y. sym (idle i x y); before = λ i x. refl; after = λ i x. refl }
 
   -- a function that makes the same of each place
-  pub turn-same : (g : ℕ → Amplitude → Amplitude) {a b : ℕ} {s s′ : State} → ((i : ℕ) → i < b → (x : Amplitude) → f i x ≡ g i x) → Turned f a b s s′ → Turned g a b s s′
+  pub turn-same : (g : ℕ → Amplitude → Amplitude) {a b : ℕ} {s s′ : State} → ((i : ℕ) → i < b → (x : Amplitude) → f i x ≡ g i x) → Mapped f a b s s′ → Mapped g a b s s′
   turn-same g {s = s} same p = record { inside = λ i x y. p .inside i x y ∙ same i y (s i); before = p .before; after = p .after }
 
   -- from a to b, then on to c
-  pub turn-join : {a b c : ℕ} {s s′ s″ : State} → a ≤ b → b ≤ c → Turned f a b s s′ → Turned f b c s′ s″ → Turned f a c s s″
+  pub turn-join : {a b c : ℕ} {s s′ s″ : State} → a ≤ b → b ≤ c → Mapped f a b s s′ → Mapped f b c s′ s″ → Mapped f a c s s″
   turn-join {a} {b} {c} {s} {s′} {s″} ab bc p q =
       record {
         inside = λ i x y. elim (decLt i b) [
@@ -47,7 +47,7 @@ module _ (f : ℕ → Amplitude → Amplitude) where
 
   -- one place stored in both buffers
   pub turn-one : (j : ℕ) (b : Buffers) (x y : Float) → j < length (b .reals) → j < length (b .imags) → amplitude x y ≡ f j (at b j)
-      → Turned f j (j + 1) (at b) (at (buffers (set (b .reals) j x) (set (b .imags) j y)))
+      → Mapped f j (j + 1) (at b) (at (buffers (set (b .reals) j x) (set (b .imags) j y)))
   turn-one j b x y lr li e =
       record {
         inside = λ i p q.
@@ -65,7 +65,7 @@ module _ (f : ℕ → Amplitude → Amplitude) where
 pub record Walked (f : ℕ → Amplitude → Amplitude) (b₀ : Buffers) (j : ℕ) (b : Buffers) : Type 0 where
   pub same : SameSize b₀ b
   pub within : j ≤ length (b₀ .reals)
-  pub turned : Turned f 0 j (at b₀) (at b)
+  pub turned : Mapped f 0 j (at b₀) (at b)
 
 module _ (f : ℕ → Amplitude → Amplitude) (b₀ : Buffers) (equal : length (b₀ .imags) ≡ length (b₀ .reals)) where
   pub walk-starts : Walked f b₀ 0 b₀
@@ -96,10 +96,10 @@ module _ (f : ℕ → Amplitude → Amplitude) (b₀ : Buffers) (equal : length 
       (walk-steps (j + 1) b₁ z w (walk-steps j b x y u (omega arith) e)
       (omega (arith, length-set (b .reals) j x)) (g ∙ ap (f (j + 1)) (sym (first .after (j + 1) (omega arith)))))
 
-  pub walk-ends : (j : ℕ) (b : Buffers) → Walked f b₀ j b → length (b .reals) ≤ j → Turned f 0 (length (b₀ .reals)) (at b₀) (at b) × SameSize b₀ b
+  pub walk-ends : (j : ℕ) (b : Buffers) → Walked f b₀ j b → length (b .reals) ≤ j → Mapped f 0 (length (b₀ .reals)) (at b₀) (at b) × SameSize b₀ b
   walk-ends j b u l =
       let e : j ≡ length (b₀ .reals) = omega (arith, u .within, u .same .reals) in
-      (subst (λ (k : ℕ). Turned f 0 k (at b₀) (at b)) e (u .turned), u .same)
+      (subst (λ (k : ℕ). Mapped f 0 k (at b₀) (at b)) e (u .turned), u .same)
 
 -- ---- the blocks: base is where a block starts
 upBy : ℕ → (Amplitude → Amplitude) → Amplitude → Amplitude
@@ -114,7 +114,7 @@ pub record Blocks (g : ℕ → Amplitude → Amplitude) (n t : ℕ) (b₀ : Buff
   pub same : SameSize b₀ b
   pub block : ℕ
   pub here : base ≡ block * 2 ^ suc t
-  pub turned : Turned (onUpper g t) 0 base (at b₀) (at b)
+  pub turned : Mapped (onUpper g t) 0 base (at b₀) (at b)
 
 module _ (g : ℕ → Amplitude → Amplitude) (n t : ℕ) (qubit : t < n) (b₀ : Buffers) where
   pub blocks-start : Blocks g n t b₀ 0 b₀
@@ -155,7 +155,7 @@ module _ (g : ℕ → Amplitude → Amplitude) (n t : ℕ) (qubit : t < n) (b₀
 
     -- the upper half was lent and came back turned
     pub blocks-step : (reals : length (b .reals) ≡ 2 ^ n) (imags : length (b .imags) ≡ 2 ^ n) (p : Buffers)
-        → Turned (λ j. g (base + 2 ^ t + j)) 0 (length (lent (base + 2 ^ t) (2 ^ t) b .reals)) (at (lent (base + 2 ^ t) (2 ^ t) b)) (at p) × SameSize (lent (base + 2 ^ t) (2 ^ t) b) p
+        → Mapped (λ j. g (base + 2 ^ t + j)) 0 (length (lent (base + 2 ^ t) (2 ^ t) b .reals)) (at (lent (base + 2 ^ t) (2 ^ t) b)) (at p) × SameSize (lent (base + 2 ^ t) (2 ^ t) b) p
         → Blocks g n t b₀ (base + 2 ^ t + 2 ^ t) (returned (base + 2 ^ t) (2 ^ t) b p)
     unfolding onUpper upBy
     blocks-step reals imags p (tu, same) =
@@ -163,9 +163,9 @@ module _ (g : ℕ → Amplitude → Amplitude) (n t : ℕ) (qubit : t < n) (b₀
         let fr : a + 2 ^ t ≤ length (b .reals) = omega (arith, blocks-room) in
         let fi : a + 2 ^ t ≤ length (b .imags) = omega (arith, blocks-room) in
         let back : SameSize b (returned a (2 ^ t) b p) = back-same a (2 ^ t) b fr fi p same in
-        let lower : Turned (onUpper g t) base a (at b) (at b) =
+        let lower : Mapped (onUpper g t) base a (at b) (at b) =
         turn-idle (onUpper g t) base a (at b) (λ i x y. ap (λ (k : ℕ). upBy k (g i) (at b i)) (low-bit i x y)) in
-        let upper : Turned (onUpper g t) a (a + 2 ^ t) (at b) (at (returned a (2 ^ t) b p)) =
+        let upper : Mapped (onUpper g t) a (a + 2 ^ t) (at b) (at (returned a (2 ^ t) b p)) =
         record {
           inside = λ i x y.
               let j : ℕ = i - a in
@@ -187,7 +187,7 @@ module _ (g : ℕ → Amplitude → Amplitude) (n t : ℕ) (qubit : t < n) (b₀
     -- the same in the code's terms: bit is the value of `1 << target`
     abbrev Step : ℕ → ℕ → Buffers → Type 0
     Step x k p =
-        Turned (λ j. g (base + x + j)) 0 (length (lent (base + x) k b .reals)) (at (lent (base + x) k b)) (at p) × SameSize (lent (base + x) k b) p
+        Mapped (λ j. g (base + x + j)) 0 (length (lent (base + x) k b .reals)) (at (lent (base + x) k b)) (at p) × SameSize (lent (base + x) k b) p
         → Blocks g n t b₀ (base + x + x) (returned (base + x) k b p)
 
     pub blocks-steps : (bit : ℕ) → bit ≡ 2 ^ t → length (b .reals) ≡ 2 ^ n → length (b .imags) ≡ 2 ^ n → (p : Buffers) → Step bit (base + bit + bit - (base + bit)) p

@@ -7,7 +7,7 @@ use lib.Bits.{bitOr, and-self, and-le-l}
 use Rattle.book.specs.Answers.{Buffers}
 use Rattle.book.specs.State.{at}
 use Rattle.book.specs.declared.Pair.{Pair}
-use Rattle.pairs.specs.Pairs.{TwoPlaces, Stepped, SameSize, Apart, Paired, Has, Keyed, Swept}
+use Rattle.pairs.specs.Pairs.{TwoPlaces, PairPut, SameSize, Apart, Paired, Has, Keyed, Swept}
 use Rattle.pairs.proofs.Bits.{or-ge, or-covers, next-least}
 use Rattle.pairs.proofs.Loop.{nothing, one, join}
 use Rattle.judging.proofs.Shifts.{shl, shl-is, pow-le}
@@ -63,7 +63,7 @@ module _ {n fixed back0 back1 : ℕ} {b₀ : Buffers} (ok : Keyed n fixed back0 
             imags = omega (arith, u .same .imags, ok .imags);
           }
 
-      pub steps : {b′ : Buffers} → w < 2 ^ n → Stepped rule (w - back0) (w - back1) (at b) (at b′) × SameSize b b′
+      pub steps : {b′ : Buffers} → w < 2 ^ n → PairPut rule (w - back0) (w - back1) (at b) (at b′) × SameSize b b′
           → Upto rule n fixed back0 back1 b₀ (bitOr (w + 1) fixed) b′
       steps {b′} l st =
           let next : w + 1 ≤ bitOr (w + 1) fixed = or-ge (w + 1) fixed in

@@ -7,7 +7,7 @@ use native.Mathlib.Decide.{decLt}
 use native.Mathlib.Omega.{arith}
 use Rattle.book.specs.State.{State, pair}
 use Rattle.book.specs.declared.Pair.{Pair}
-use Rattle.pairs.specs.Pairs.{Stepped, Apart, Paired}
+use Rattle.pairs.specs.Pairs.{PairPut, Apart, Paired}
 
 module _ (rule : Pair → Pair) (Key : ℕ → Type 0) (s0 s1 : ℕ → ℕ) where
   -- a stretch with no key
@@ -16,7 +16,7 @@ module _ (rule : Pair → Pair) (Key : ℕ → Type 0) (s0 s1 : ℕ → ℕ) whe
       record { lower = λ w k x y. absurd (none w k x y); upper = λ w k x y. absurd (none w k x y); others = λ i f. refl }
 
   -- one pair
-  pub one : {w : ℕ} {s s′ : State} → Key w → Stepped rule (s0 w) (s1 w) s s′ → Paired rule Key s0 s1 w (w + 1) s s′
+  pub one : {w : ℕ} {s s′ : State} → Key w → PairPut rule (s0 w) (s1 w) s s′ → Paired rule Key s0 s1 w (w + 1) s s′
   one {w} {s} {s′} key st =
       record {
         lower = λ v k x y. subst (λ (z : ℕ). s′ (s0 z) ≡ rule (pair (s (s0 z)) (s (s1 z))) .s0) (let e : w ≡ v = omega arith in e) (st .lower);

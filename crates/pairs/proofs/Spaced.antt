@@ -12,8 +12,8 @@ use lib.Seq.{getD-set-same, getD-set-other}
 use Rattle.book.specs.Answers.{Buffers, buffers}
 use Rattle.book.specs.State.{State, amplitude, at, pair}
 use Rattle.book.specs.declared.Pair.{Pair}
-use Rattle.pairs.specs.Pairs.{TwoPlaces, pairAt, Stepped, SameSize, Apart, Paired}
-use Rattle.pairs.specs.Runs.{Spaced, Run, Ran, FourPlaces, WrittenTwo}
+use Rattle.pairs.specs.Pairs.{TwoPlaces, pairAt, PairPut, SameSize, Apart, Paired}
+use Rattle.pairs.specs.Runs.{Spaced, Run, RunDone, FourPlaces, WrittenTwo}
 use Rattle.pairs.proofs.Loop.{nothing, one, join}
 
 -- two multiples of s are s apart
@@ -107,7 +107,7 @@ module _ {run d stride : ℕ} {b₀ : Buffers} (ok : Run run d stride b₀) wher
   walk-starts {rule} step =
       record { same = record { reals = refl; imags = refl }; on = zero-mod step; done = nothing rule (Spaced stride run) (λ i. i) (λ i. i + d) 0 0 (at b₀) (λ w k x y. omega arith) }
 
-  pub walk-ends : {rule : Pair → Pair} {step i : ℕ} {b : Buffers} → Walk rule run d stride step b₀ i b → run ≤ i → Ran rule run d stride b₀ b
+  pub walk-ends : {rule : Pair → Pair} {step i : ℕ} {b : Buffers} → Walk rule run d stride step b₀ i b → run ≤ i → RunDone rule run d stride b₀ b
   walk-ends {b = b} u l =
       record {
         same = u .same;
@@ -141,7 +141,7 @@ module _ {run d stride : ℕ} {b₀ : Buffers} (ok : Run run d stride b₀) wher
           imags = omega (arith, one-room, u .same .imags, ok .equal);
         }
 
-    pub one-steps : {b′ : Buffers} → Stepped rule i (i + d) (at b) (at b′) × SameSize b b′ → Walk rule run d stride stride b₀ (i + stride) b′
+    pub one-steps : {b′ : Buffers} → PairPut rule i (i + d) (at b) (at b′) × SameSize b b′ → Walk rule run d stride stride b₀ (i + stride) b′
     one-steps {b′} st =
         walk-on u (st .1)
         (join rule (Spaced stride run) (λ j. j) (λ j. j + d) aparts (omega arith) (omega (arith, ok .some)) (one rule (Spaced stride run) (λ j. j) (λ j. j + d) (u .on, l) (st .0))

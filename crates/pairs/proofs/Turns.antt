@@ -14,7 +14,7 @@ use Rattle.book.specs.Answers.{Buffers}
 use Rattle.book.specs.State.{at, pair}
 use Rattle.book.specs.declared.Pair.{Pair}
 use Rattle.pairs.specs.Pairs.{SameSize, Paired, Has, Swept}
-use Rattle.pairs.specs.Runs.{Spaced, Run, Ran, Cut, Runs}
+use Rattle.pairs.specs.Runs.{Spaced, Run, RunDone, Cut, Runs}
 use Rattle.pairs.proofs.Bits.{or-ge, or-covers, next-block, next-block-least}
 use Rattle.pairs.proofs.Cuts.{pow-split}
 use Rattle.pairs.proofs.Keys.{key-ge, apart}
@@ -267,7 +267,7 @@ module _ {n wide run stride back0 back1 : ℕ} {b₀ : Buffers} (ok : Runs n wid
             even = run-even (t .cut);
           }
 
-      pub turns-step : (p : Buffers) → Ran rule run (back0 - back1) stride (lent a k b) p
+      pub turns-step : (p : Buffers) → RunDone rule run (back0 - back1) stride (lent a k b) p
           → Turns rule n wide run stride back0 back1 b₀ (bitOr (u + run) wide) (returned a k b p)
       turns-step p ran =
           let q = numbers l in
@@ -292,7 +292,7 @@ module _ {n wide run stride back0 back1 : ℕ} {b₀ : Buffers} (ok : Runs n wid
           }
         where
           -- the run itself
-          this : (p : Buffers) → Ran rule run (back0 - back1) stride (lent a k b) p
+          this : (p : Buffers) → RunDone rule run (back0 - back1) stride (lent a k b) p
               → Paired rule (Has (wide + (stride - 1))) (λ v. v - back0) (λ v. v - back1) u (u + run) (at b) (at (returned a k b p))
           this p ran =
               let q = numbers l in

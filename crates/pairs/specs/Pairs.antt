@@ -21,7 +21,7 @@ abbrev pub pairAt : Buffers → ℕ → ℕ → Pair
 pairAt b s0 s1 = pair (at b s0) (at b s1)
 
 -- the rule was put to the pair at s0 and s1, and no other place changed
-pub record Stepped (rule : Pair → Pair) (s0 s1 : ℕ) (s s′ : State) : Type 0 where
+pub record PairPut (rule : Pair → Pair) (s0 s1 : ℕ) (s s′ : State) : Type 0 where
   pub lower : s′ s0 ≡ rule (pair (s s0) (s s1)) .s0
   pub upper : s′ s1 ≡ rule (pair (s s0) (s s1)) .s1
   pub others : (i : ℕ) → (i ≡ s0 → ⊥) → (i ≡ s1 → ⊥) → s′ i ≡ s i
@@ -67,7 +67,7 @@ pub record Swept (rule : Pair → Pair) (n fixed back0 back1 : ℕ) (b b′ : Bu
   pub pairs : Paired rule (Has fixed) (λ w. w - back0) (λ w. w - back1) 0 (2 ^ n) (at b) (at b′)
 
 -- ---- places one by one: each place from a on and below b became what f makes of it, and no other changed
-pub record Turned (f : ℕ → Amplitude → Amplitude) (a b : ℕ) (s s′ : State) : Type 0 where
+pub record Mapped (f : ℕ → Amplitude → Amplitude) (a b : ℕ) (s s′ : State) : Type 0 where
   pub inside : (i : ℕ) → a ≤ i → i < b → s′ i ≡ f i (s i)
   pub before : (i : ℕ) → i < a → s′ i ≡ s i
   pub after : (i : ℕ) → b ≤ i → s′ i ≡ s i

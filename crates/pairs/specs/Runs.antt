@@ -23,7 +23,7 @@ pub record Run (run d stride : ℕ) (b : Buffers) : Type 0 where
   pub even : (i : ℕ) → i % (stride * 2) ≡ 0 → i < run → i + stride < run
 
 -- the rule was put to each of its pairs
-pub record Ran (rule : Pair → Pair) (run d stride : ℕ) (b b′ : Buffers) : Type 0 where
+pub record RunDone (rule : Pair → Pair) (run d stride : ℕ) (b b′ : Buffers) : Type 0 where
   pub same : SameSize b b′
   pub pairs : Paired rule (Spaced stride run) (λ i. i) (λ i. i + d) 0 run (at b) (at b′)
 

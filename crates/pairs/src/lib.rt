@@ -5,7 +5,7 @@ use book::Pair;
 ghost use mathlib.Core.Path.{_≡_};
 ghost use Rattle.book.specs.Lent.{before, after, here};
 ghost use Rattle.book.specs.State.{at};
-ghost use Rattle.pairs.specs.Pairs.{TwoPlaces, pairAt, Stepped, SameSize};
+ghost use Rattle.pairs.specs.Pairs.{TwoPlaces, pairAt, PairPut, SameSize};
 ghost use Rattle.pairs.specs.Runs.{FourPlaces, WrittenTwo};
 
 pub fn read_pair(reals: &[f64], imags: &[f64], s0: usize, s1: usize) -> Pair
@@ -26,7 +26,7 @@ pub fn read_pair(reals: &[f64], imags: &[f64], s0: usize, s1: usize) -> Pair
 
 pub fn write_pair(reals: &mut [f64], imags: &mut [f64], s0: usize, s1: usize, p: Pair)
     requires { ⌜ TwoPlaces (here reals imags) s0 s1 ⌝ }
-    ensures { λ _. ⌜ Stepped (λ q. p) s0 s1 (at (before reals imags)) (at (after reals imags)) × SameSize (before reals imags) (after reals imags) ⌝ }
+    ensures { λ _. ⌜ PairPut (λ q. p) s0 s1 (at (before reals imags)) (at (after reals imags)) × SameSize (before reals imags) (after reals imags) ⌝ }
 {
     let ab = p.s0;
     let cd = p.s1;

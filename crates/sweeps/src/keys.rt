@@ -7,7 +7,7 @@ use rules::Rule;
 ghost use Rattle.book.specs.Lent.{before, after, here};
 ghost use Rattle.book.specs.State.{at};
 ghost use Rattle.rules.specs.Rules.{ruleOf};
-ghost use Rattle.pairs.specs.Pairs.{TwoPlaces, Stepped, SameSize, Keyed, Swept};
+ghost use Rattle.pairs.specs.Pairs.{TwoPlaces, PairPut, SameSize, Keyed, Swept};
 
 fn step(
     reals: &mut [f64],
@@ -19,7 +19,7 @@ fn step(
     matrix: Matrix,
 )
     requires { ⌜ TwoPlaces (here reals imags) s0 s1 ⌝ }
-    ensures { λ _. ⌜ Stepped (ruleOf rule angle matrix) s0 s1 (at (before reals imags)) (at (after reals imags)) × SameSize (before reals imags) (after reals imags) ⌝ }
+    ensures { λ _. ⌜ PairPut (ruleOf rule angle matrix) s0 s1 (at (before reals imags)) (at (after reals imags)) × SameSize (before reals imags) (after reals imags) ⌝ }
 {
     let p = read_pair(reals, imags, s0, s1);
     let q = rules::put(rule, angle, matrix, p);

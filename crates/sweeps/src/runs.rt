@@ -10,7 +10,7 @@ ghost use Prim.Native.Nat.{_+_, _-_};
 ghost use Rattle.book.specs.Lent.{before, after, here};
 ghost use Rattle.rules.specs.Rules.{quickOf};
 ghost use Rattle.pairs.specs.Pairs.{Swept};
-ghost use Rattle.pairs.specs.Runs.{Run, Ran, Runs};
+ghost use Rattle.pairs.specs.Runs.{Run, RunDone, Runs};
 
 // One pair at a turn, at each stride-th place.
 fn along(
@@ -23,7 +23,7 @@ fn along(
     angle: Angle,
 )
     requires { ⌜ Run run d stride (here reals imags) ⌝ }
-    ensures { λ _. ⌜ Ran (quickOf rule angle) run d stride (before reals imags) (after reals imags) ⌝ }
+    ensures { λ _. ⌜ RunDone (quickOf rule angle) run d stride (before reals imags) (after reals imags) ⌝ }
 {
     let mut i = 0;
     while i < run {
@@ -45,7 +45,7 @@ fn by_twos(
     angle: Angle,
 )
     requires { ⌜ Run run d stride (here reals imags) ⌝ }
-    ensures { λ _. ⌜ Ran (quickOf rule angle) run d stride (before reals imags) (after reals imags) ⌝ }
+    ensures { λ _. ⌜ RunDone (quickOf rule angle) run d stride (before reals imags) (after reals imags) ⌝ }
 {
     let mut i = 0;
     while i < run {
@@ -71,7 +71,7 @@ fn part(
     angle: Angle,
 )
     requires { ⌜ Run run d stride (here reals imags) ⌝ }
-    ensures { λ _. ⌜ Ran (quickOf rule angle) run d stride (before reals imags) (after reals imags) ⌝ }
+    ensures { λ _. ⌜ RunDone (quickOf rule angle) run d stride (before reals imags) (after reals imags) ⌝ }
 {
     if two {
         by_twos(reals, imags, run, d, stride, rule, angle);

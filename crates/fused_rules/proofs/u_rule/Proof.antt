@@ -1,10 +1,10 @@
--- `rules::u_rule` meets its contract: the ten values of F, each within the next. Assumes nothing.
+-- `fused_rules::u_rule` meets its contract: the ten values of F, each within the next. Assumes nothing.
 use mathlib.Core.Path.{ap, ap₂, _∙_}
 use borrow.Author.Needs.{needs}
 use Rattle.book.specs.Gates.{F, −_, entry}
 use Rattle.book.specs.State.{amplitude, pair}
-use Rattle.rules.proofs.u_rule.Statement.{statement}
-use Rattle.rules.proofs.u_rule.Tie as tie
+use Rattle.fused_rules.proofs.u_rule.Statement.{statement}
+use Rattle.fused_rules.proofs.u_rule.Tie as tie
 
 returns : tie.Need-returns
 returns c =
