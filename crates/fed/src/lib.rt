@@ -174,10 +174,7 @@ pub fn feed_upper(upper: Upper) -> FedUpper
                 sine: 0.0,
             },
         },
-        Upper::P(angle) => FedUpper {
-            number: 1,
-            angle,
-        },
+        Upper::P(angle) => FedUpper { number: 1, angle },
     }
 }
 

@@ -1,122 +1,17 @@
-// The chosen pairs run by run, for the gates that need no F: each run is lent as one part of both buffers.
-// The compiler makes a loop for each form and each gate, since it knows the literals at a call, and in an arm the number that was matched:
-// so the arms are one call, and one proof serves them all. The last arm is no gate's.
-use super::pairs::read_pair;
-use super::pairs::write_pair;
-use super::pairs::write_two;
+// The loops over runs in the forms that the compiler makes of them: by the length of a run, by the stride, and by the gate.
+// It makes a loop for each form and each gate, since it knows the literals at a call, and in an arm the number that was matched:
+// so the arms are one call, and one proof serves them all. The last arm is no gate's. Their many parameters are those of a run.
+// An inner room: its function asks for keys whose pairs lie apart, and its callers are proved.
 use book::Angle;
-use rules::put_quick;
-ghost use Prim.Native.Nat.{_+_, _-_};
+use runs::runs;
+ghost use Prim.Native.Nat.{_+_, _-_, _<_, _^_};
 ghost use Rattle.book.specs.Lent.{before, after, here};
 ghost use Rattle.rules.specs.Rules.{quickOf};
-ghost use Rattle.pairs.specs.Pairs.{Swept};
-ghost use Rattle.pairs.specs.Runs.{Run, RunDone, Runs};
+ghost use Rattle.pairs.specs.Pairs.{Keyed, Swept};
+ghost use Rattle.pairs.specs.Runs.{Runs};
 
-// One pair at a turn, at each stride-th place.
-fn along(
-    reals: &mut [f64],
-    imags: &mut [f64],
-    run: usize,
-    d: usize,
-    stride: usize,
-    rule: u32,
-    angle: Angle,
-)
-    requires { ⌜ Run run d stride (here reals imags) ⌝ }
-    ensures { λ _. ⌜ RunDone (quickOf rule angle) run d stride (before reals imags) (after reals imags) ⌝ }
-{
-    let mut i = 0;
-    while i < run {
-        let p = read_pair(reals, imags, i, i + d);
-        let v = put_quick(rule, angle, p);
-        write_pair(reals, imags, i, i + d, v);
-        i += stride;
-    }
-}
-
-// Two pairs at a turn: both are read before either is written.
-fn by_twos(
-    reals: &mut [f64],
-    imags: &mut [f64],
-    run: usize,
-    d: usize,
-    stride: usize,
-    rule: u32,
-    angle: Angle,
-)
-    requires { ⌜ Run run d stride (here reals imags) ⌝ }
-    ensures { λ _. ⌜ RunDone (quickOf rule angle) run d stride (before reals imags) (after reals imags) ⌝ }
-{
-    let mut i = 0;
-    while i < run {
-        let next = i + stride;
-        let p = read_pair(reals, imags, i, i + d);
-        let q = read_pair(reals, imags, next, next + d);
-        let v = put_quick(rule, angle, p);
-        let w = put_quick(rule, angle, q);
-        write_two(reals, imags, i, i + d, stride, v, w);
-        i += stride * 2;
-    }
-}
-
-// A run, whose keys are the stride-th below run.
-fn part(
-    reals: &mut [f64],
-    imags: &mut [f64],
-    run: usize,
-    d: usize,
-    stride: usize,
-    two: bool,
-    rule: u32,
-    angle: Angle,
-)
-    requires { ⌜ Run run d stride (here reals imags) ⌝ }
-    ensures { λ _. ⌜ RunDone (quickOf rule angle) run d stride (before reals imags) (after reals imags) ⌝ }
-{
-    if two {
-        by_twos(reals, imags, run, d, stride, rule, angle);
-        return;
-    }
-    along(reals, imags, run, d, stride, rule, angle);
-}
-
-// u goes over the numbers that have all bits of wide, run by run; each stride-th of those is a key.
-fn runs(
-    reals: &mut [f64],
-    imags: &mut [f64],
-    n: u32,
-    wide: usize,
-    run: usize,
-    stride: usize,
-    back0: usize,
-    back1: usize,
-    two: bool,
-    rule: u32,
-    angle: Angle,
-)
-    requires { ⌜ Runs n wide run stride back0 back1 (here reals imags) ⌝ }
-    ensures { λ _. ⌜ Swept (quickOf rule angle) n (wide + (stride - 1)) back0 back1 (before reals imags) (after reals imags) ⌝ }
-{
-    let size = reals.len();
-    let low = stride - 1;
-    let d = back0 - back1;
-    let mut u = wide;
-    while u < size {
-        let a = u + low - back0;
-        let e = u + run - back1;
-        part(
-            &mut reals[a..e],
-            &mut imags[a..e],
-            run,
-            d,
-            stride,
-            two,
-            rule,
-            angle,
-        );
-        u = (u + run) | wide;
-    }
-}
+// From this length on a run is left to the compiler's own joining of turns.
+const LONG: usize = 32;
 
 // All runs with one pair at a turn.
 fn ones(
@@ -181,7 +76,7 @@ fn twos(
 }
 
 // Neighbouring keys, in long runs.
-pub(crate) fn dense(
+fn dense(
     reals: &mut [f64],
     imags: &mut [f64],
     n: u32,
@@ -206,7 +101,7 @@ pub(crate) fn dense(
 }
 
 // Neighbouring keys, in short runs.
-pub(crate) fn short(
+fn short(
     reals: &mut [f64],
     imags: &mut [f64],
     n: u32,
@@ -231,7 +126,7 @@ pub(crate) fn short(
 }
 
 // Each second key, with neighbouring places: target 0.
-pub(crate) fn neighbours(
+fn neighbours(
     reals: &mut [f64],
     imags: &mut [f64],
     n: u32,
@@ -254,7 +149,7 @@ pub(crate) fn neighbours(
 }
 
 // Each step-th key.
-pub(crate) fn strided(
+fn strided(
     reals: &mut [f64],
     imags: &mut [f64],
     n: u32,
@@ -277,4 +172,53 @@ pub(crate) fn strided(
         4 => twos(reals, imags, n, wide, run, step, back0, back1, rule, angle),
         _ => twos(reals, imags, n, wide, run, step, back0, back1, rule, angle),
     }
+}
+
+// Run by run, where not every qubit is fixed. The fixed bits are cut in two: the ones that they end in give the stride,
+// and the lowest bit of the rest the length of a run.
+pub fn by_runs(
+    reals: &mut [f64],
+    imags: &mut [f64],
+    n: u32,
+    fixed: usize,
+    back0: usize,
+    back1: usize,
+    rule: u32,
+    angle: Angle,
+)
+    requires { ⌜ Keyed n fixed back0 back1 (here reals imags) × (fixed + 1 < 2 ^ n) ⌝ }
+    ensures { λ _. ⌜ Swept (quickOf rule angle) n fixed back0 back1 (before reals imags) (after reals imags) ⌝ }
+{
+    let size: usize = 1 << n;
+    let k = usize::trailing_zeros(fixed + 1);
+    let stride: usize = 1 << k;
+    let wide = fixed - (stride - 1);
+    let r = usize::trailing_zeros(wide + size);
+    let run: usize = 1 << r;
+    if stride == 1 {
+        if run < LONG {
+            short(reals, imags, n, wide, run, back0, back1, rule, angle);
+            return;
+        }
+        dense(reals, imags, n, wide, run, back0, back1, rule, angle);
+        return;
+    }
+    if stride == 2 {
+        if back0 == 1 {
+            neighbours(reals, imags, n, wide, run, rule, angle);
+            return;
+        }
+    }
+    strided(
+        reals,
+        imags,
+        n,
+        wide,
+        run,
+        stride,
+        back0,
+        back1,
+        rule,
+        angle,
+    );
 }

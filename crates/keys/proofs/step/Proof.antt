@@ -1,16 +1,16 @@
--- `sweeps::step` meets its contract: read, rule, write. Assumes nothing.
+-- `keys::step` meets its contract: read, rule, write. Assumes nothing.
 use borrow.Author.Needs.{needs}
-use Rattle.rules.specs.Rules.{ruleOf}
+use Rattle.fed.specs.Named.{putOf}
 use Rattle.pairs.proofs.Buffers.{stepped}
-use Rattle.sweeps.proofs.keys.step.Statement.{statement}
-use Rattle.sweeps.proofs.keys.step.Tie as tie
+use Rattle.keys.proofs.step.Statement.{statement}
+use Rattle.keys.proofs.step.Tie as tie
 
 returns : tie.Need-returns
 returns c =
     let wrote = c .before .before .before .before .write-pair .ensures in
     let put = c .before .before .before .before .before .before .before in
     let args = put .before .before .before .before .before .before .args in
-    (stepped (ruleOf (args .rule) (args .angle) (args .matrix)) (put .before .read-pair .ensures) (put .put .ensures) (wrote .0), wrote .1)
+    (stepped (putOf (args .fed)) (put .before .read-pair .ensures) (put .put .ensures) (wrote .0), wrote .1)
 
 pub step-spec : {M : Type 1} → statement M
 step-spec =

@@ -1,12 +1,12 @@
--- `sweeps::runs` meets its contract, by the law of the runs. Assumes nothing.
+-- `runs::runs` meets its contract, by the law of the runs. Assumes nothing.
 use Prim.Native.Nat.{_+_, _-_, _^_, _<_}
 use native.Mathlib.Omega.{arith}
 use Rattle.book.specs.Answers.{buffers}
 use Rattle.rules.specs.Rules.{quickOf}
 use Rattle.pairs.proofs.Bits.{or-ge}
 use Rattle.pairs.proofs.Turns.{Turns, Numbers, numbers, turns-start, turns-ask, turns-step, turns-end, stride-pos}
-use Rattle.sweeps.proofs.runs.runs.Statement.{statement}
-use Rattle.sweeps.proofs.runs.runs.Tie as tie
+use Rattle.runs.proofs.runs.Statement.{statement}
+use Rattle.runs.proofs.runs.Tie as tie
 
 abbrev Inv-loop : tie.InvT-loop
 Inv-loop reals₀ imags₀ n wide run stride back0 back1 two rule angle size low d u₀ reals imags u =

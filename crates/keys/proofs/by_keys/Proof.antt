@@ -1,19 +1,19 @@
--- `sweeps::by_keys` meets its contract, by the law of the loop over the keys. Assumes nothing.
+-- `keys::by_keys` meets its contract, by the law of the loop over the keys. Assumes nothing.
 use Prim.Native.Nat.{_+_, _-_, _^_, _<_}
 use native.Mathlib.Omega.{arith}
 use Rattle.book.specs.Answers.{buffers}
-use Rattle.rules.specs.Rules.{ruleOf}
+use Rattle.fed.specs.Named.{putOf}
 use Rattle.pairs.proofs.Bits.{or-ge}
 use Rattle.pairs.proofs.Keys.{Upto, size-is, small, starts, reach, asked, steps, ends}
-use Rattle.sweeps.proofs.keys.by_keys.Statement.{statement}
-use Rattle.sweeps.proofs.keys.by_keys.Tie as tie
+use Rattle.keys.proofs.by_keys.Statement.{statement}
+use Rattle.keys.proofs.by_keys.Tie as tie
 
 abbrev Inv-loop : tie.InvT-loop
-Inv-loop reals₀ imags₀ n fixed back0 back1 rule angle matrix size w₀ reals imags w =
-    Upto (ruleOf rule angle matrix) n fixed back0 back1 (buffers reals₀ imags₀) w (buffers reals imags)
+Inv-loop reals₀ imags₀ n fixed back0 back1 fed size w₀ reals imags w =
+    Upto (putOf fed) n fixed back0 back1 (buffers reals₀ imags₀) w (buffers reals imags)
 
 abbrev μ-loop : tie.MeasureT-loop
-μ-loop reals₀ imags₀ n fixed back0 back1 rule angle matrix size w₀ reals imags w = size - w
+μ-loop reals₀ imags₀ n fixed back0 back1 fed size w₀ reals imags w = size - w
 
 -- a turn: the key is below 2 ^ n, which is small
 abbrev start : tie.In-loop Inv-loop μ-loop → tie.Start Inv-loop μ-loop

@@ -1,4 +1,4 @@
--- `sweeps::along` meets its contract, by the walk of one pair at a turn. Assumes nothing.
+-- `runs::along` meets its contract, by the walk of one pair at a turn. Assumes nothing.
 use Prim.Native.Nat.{_+_, _-_, _^_, _<_}
 use native.Mathlib.Omega.{arith}
 use borrow.Author.Needs.{needs}
@@ -6,8 +6,8 @@ use Rattle.book.specs.Answers.{buffers}
 use Rattle.rules.specs.Rules.{quickOf}
 use Rattle.pairs.proofs.Buffers.{stepped}
 use Rattle.pairs.proofs.Spaced.{Walk, walk-starts, walk-ends, one-room, one-asks, one-steps}
-use Rattle.sweeps.proofs.runs.along.Statement.{statement}
-use Rattle.sweeps.proofs.runs.along.Tie as tie
+use Rattle.runs.proofs.along.Statement.{statement}
+use Rattle.runs.proofs.along.Tie as tie
 
 abbrev Inv-loop : tie.InvT-loop
 Inv-loop reals₀ imags₀ run d stride rule angle i₀ reals imags i = Walk (quickOf rule angle) run d stride stride (buffers reals₀ imags₀) i (buffers reals imags)

@@ -1,12 +1,12 @@
--- `sweeps::by_twos` meets its contract, by the walk of two pairs at a turn. Assumes nothing.
+-- `runs::by_twos` meets its contract, by the walk of two pairs at a turn. Assumes nothing.
 use Prim.Native.Nat.{_+_, _-_, _*_, _^_, _<_}
 use native.Mathlib.Omega.{arith}
 use borrow.Author.Needs.{needs}
 use Rattle.book.specs.Answers.{buffers}
 use Rattle.rules.specs.Rules.{quickOf}
 use Rattle.pairs.proofs.Spaced.{Walk, walk-starts, walk-ends, two-room-next, two-asks, two-asks-next, two-asks-four, two-steps}
-use Rattle.sweeps.proofs.runs.by_twos.Statement.{statement}
-use Rattle.sweeps.proofs.runs.by_twos.Tie as tie
+use Rattle.runs.proofs.by_twos.Statement.{statement}
+use Rattle.runs.proofs.by_twos.Tie as tie
 
 abbrev Inv-loop : tie.InvT-loop
 Inv-loop reals₀ imags₀ run d stride rule angle i₀ reals imags i =
