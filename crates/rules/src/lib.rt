@@ -1,25 +1,12 @@
-// The rule of each gate on a pair of amplitudes, by value, operation for operation as 01 writes it.
+// The rules of the gates that need no F on a pair of amplitudes, by value, operation for operation as 01 writes them; and U's matrix.
 use book::Amplitude;
 use book::Angle;
 use book::Angles;
 use book::Matrix;
 use book::Pair;
-use fused::fused;
 ghost use mathlib.Core.Path.{_≡_};
-ghost use Rattle.book.specs.Gates as Gates;
-ghost use Rattle.book.specs.Gates.{xRule, yRule, hRule, rxRule, ryRule, rzRule, uMatrix, uRule};
-ghost use Rattle.rules.specs.Rules.{ruleOf, codeOf, quickOf, zUpper, pUpper, upperOf};
-
-// The gates that change both places of a pair.
-pub enum Rule {
-    X,
-    Y,
-    H,
-    Rx,
-    Ry,
-    Rz,
-    U,
-}
+ghost use Rattle.book.specs.Gates.{xRule, yRule, hRule, rxRule, ryRule, uMatrix};
+ghost use Rattle.rules.specs.Rules.{quickOf, zUpper};
 
 pub fn x_rule(p: Pair) -> Pair
     ensures { λ r. ⌜ r ≡ xRule p ⌝ }
@@ -107,27 +94,14 @@ pub fn ry_rule(angle: Angle, p: Pair) -> Pair
     }
 }
 
-// m and (x,y).
-fn turned(m: Amplitude, z: Amplitude) -> Amplitude
-    ensures { λ r. ⌜ r ≡ Gates.turned m z ⌝ }
+// s1 under Z.
+pub fn z_upper(cd: Amplitude) -> Amplitude
+    ensures { λ r. ⌜ r ≡ zUpper cd ⌝ }
 {
-    let x = z.re;
-    let y = z.im;
-    let re = fused(x, m.re, -y * m.im);
-    let im = fused(x, m.im, y * m.re);
-    Amplitude { re, im }
-}
-
-pub fn rz_rule(angle: Angle, p: Pair) -> Pair
-    ensures { λ r. ⌜ r ≡ rzRule angle p ⌝ }
-{
-    let k = angle.cosine;
-    let s = angle.sine;
-    let ab = p.s0;
-    let cd = p.s1;
-    let s0 = turned(Amplitude { re: k, im: -s }, ab);
-    let s1 = turned(Amplitude { re: k, im: s }, cd);
-    Pair { s0, s1 }
+    Amplitude {
+        re: -cd.re,
+        im: -cd.im,
+    }
 }
 
 // U's matrix, made once.
@@ -155,61 +129,6 @@ pub fn u_matrix(angles: Angles) -> Matrix
     }
 }
 
-pub fn u_rule(matrix: Matrix, pair: Pair) -> Pair
-    ensures { λ r. ⌜ r ≡ uRule matrix pair ⌝ }
-{
-    let p = matrix.entries[0].re;
-    let q = matrix.entries[1].re;
-    let r = matrix.entries[1].im;
-    let u = matrix.entries[2].re;
-    let v = matrix.entries[2].im;
-    let e = matrix.entries[3].re;
-    let f = matrix.entries[3].im;
-    let a = pair.s0.re;
-    let b = pair.s0.im;
-    let c = pair.s1.re;
-    let d = pair.s1.im;
-    let s0 = Amplitude {
-        re: fused(p, a, fused(q, c, -r * d)),
-        im: fused(p, b, fused(q, d, r * c)),
-    };
-    let s1 = Amplitude {
-        re: fused(u, a, fused(-v, b, fused(e, c, -f * d))),
-        im: fused(u, b, fused(v, a, fused(e, d, f * c))),
-    };
-    Pair { s0, s1 }
-}
-
-// The rule put to a pair, with the numbers that the gate is fed: an angle, or U's matrix.
-pub fn put(rule: Rule, angle: Angle, matrix: Matrix, p: Pair) -> Pair
-    ensures { λ r. ⌜ r ≡ ruleOf rule angle matrix p ⌝ }
-{
-    match rule {
-        Rule::X => x_rule(p),
-        Rule::Y => y_rule(p),
-        Rule::H => h_rule(p),
-        Rule::Rx => rx_rule(angle, p),
-        Rule::Ry => ry_rule(angle, p),
-        Rule::Rz => rz_rule(angle, p),
-        Rule::U => u_rule(matrix, p),
-    }
-}
-
-// The number of a gate; those that need no F come first.
-pub fn code(rule: Rule) -> u32
-    ensures { λ r. ⌜ r ≡ codeOf rule ⌝ }
-{
-    match rule {
-        Rule::X => 0,
-        Rule::Y => 1,
-        Rule::H => 2,
-        Rule::Rx => 3,
-        Rule::Ry => 4,
-        Rule::Rz => 5,
-        Rule::U => 6,
-    }
-}
-
 // The rule of a gate that needs no F, by the gate's number: a call with a literal leaves one rule to compile.
 pub fn put_quick(rule: u32, angle: Angle, p: Pair) -> Pair
     ensures { λ r. ⌜ r ≡ quickOf rule angle p ⌝ }
@@ -220,38 +139,5 @@ pub fn put_quick(rule: u32, angle: Angle, p: Pair) -> Pair
         2 => h_rule(p),
         3 => rx_rule(angle, p),
         _ => ry_rule(angle, p),
-    }
-}
-
-// s1 under Z.
-pub fn z_upper(cd: Amplitude) -> Amplitude
-    ensures { λ r. ⌜ r ≡ zUpper cd ⌝ }
-{
-    Amplitude {
-        re: -cd.re,
-        im: -cd.im,
-    }
-}
-
-// s1 under P.
-pub fn p_upper(angle: Angle, cd: Amplitude) -> Amplitude
-    ensures { λ r. ⌜ r ≡ pUpper angle cd ⌝ }
-{
-    let k = angle.cosine;
-    let s = angle.sine;
-    let c = cd.re;
-    let d = cd.im;
-    let re = fused(c, k, -d * s);
-    let im = fused(d, k, c * s);
-    Amplitude { re, im }
-}
-
-// s1 under a gate that leaves s0, by number: Z, P.
-pub fn put_upper(upper: u32, angle: Angle, cd: Amplitude) -> Amplitude
-    ensures { λ r. ⌜ r ≡ upperOf upper angle cd ⌝ }
-{
-    match upper {
-        0 => z_upper(cd),
-        _ => p_upper(angle, cd),
     }
 }

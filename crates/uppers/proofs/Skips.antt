@@ -18,12 +18,12 @@ use Rattle.book.specs.State.{State, amplitude, at, bit, chosen}
 use Rattle.book.specs.declared.Amplitude.{Amplitude}
 use Rattle.book.specs.declared.Angle.{Angle}
 use Rattle.rules.specs.Rules.{upperOf}
-use Rattle.state.specs.Judging.{Seated}
-use Rattle.state.specs.Pairs.{SameSize, Turned, Has}
-use Rattle.state.proofs.Bits.{or-ge, or-covers, next-least, next-block, next-block-least}
-use Rattle.state.proofs.Halves.{turn-same, Walked, walk-starts, walk-steps, walk-skips, walk-ends, Blocks, blocks-start, blocks-skip, blocks-room, blocks-steps}
-use Rattle.state.proofs.Keys.{key-ge}
-use Rattle.state.proofs.Lending.{lent, returned, lent-reals}
+use Rattle.pairs.specs.Judging.{Seated}
+use Rattle.pairs.specs.Pairs.{SameSize, Mapped, Has}
+use Rattle.pairs.proofs.Bits.{or-ge, or-covers, next-least, next-block, next-block-least}
+use Rattle.pairs.proofs.Halves.{turn-same, Walked, walk-starts, walk-steps, walk-skips, walk-ends, Blocks, blocks-start, blocks-skip, blocks-room, blocks-steps}
+use Rattle.pairs.proofs.Keys.{key-ge}
+use Rattle.pairs.proofs.Lending.{lent, returned, lent-reals}
 use Rattle.uppers.specs.Uppers.{masked, turnedAt}
 
 module _ (ones upper : ℕ) (angle : Angle) (i : ℕ) where
@@ -38,7 +38,7 @@ module _ (ones upper : ℕ) (angle : Angle) (i : ℕ) where
 
 -- without controls every place is turned
 pub unasked : (ones upper : ℕ) (angle : Angle) {b : ℕ} {s s′ : State} → ones ≡ 0
-    → Turned (λ _. upperOf upper angle) 0 b s s′ → Turned (turnedAt (masked ones) upper angle) 0 b s s′
+    → Mapped (λ _. upperOf upper angle) 0 b s s′ → Mapped (turnedAt (masked ones) upper angle) 0 b s s′
 unasked ones upper angle e =
     turn-same (λ _. upperOf upper angle) (turnedAt (masked ones) upper angle)
     (λ i l x. sym (here-chosen ones upper angle i (ap (bitAnd i) e ∙ and-zero-r i ∙ sym e) x))
@@ -78,7 +78,7 @@ module _ (low upper : ℕ) (angle : Angle) (b₀ : Buffers) (equal : length (b�
       }
 
   pub picks-end : (j : ℕ) (b : Buffers) → Picked low upper angle b₀ j b → length (b .reals) ≤ j
-      → Turned f 0 (length (b₀ .reals)) (at b₀) (at b) × SameSize b₀ b
+      → Mapped f 0 (length (b₀ .reals)) (at b₀) (at b) × SameSize b₀ b
   picks-end j b u l = walk-ends f b₀ equal (min j size) b (u .walked) (omega (arith, u .walked .same .reals))
 
 -- the same number added on both sides changes no test
@@ -154,7 +154,7 @@ module _ {ones n t : ℕ} {b₀ : Buffers} (ok : Seated n t (masked ones) b₀) 
     abbrev Step : ℕ → Type 0
     Step x =
         let part = lent (base + x) (base + x + x - (base + x)) b in
-        Turned (turnedAt (masked (ones % x)) upper angle) 0 (length (part .reals)) (at part) (at p) × SameSize part p
+        Mapped (turnedAt (masked (ones % x)) upper angle) 0 (length (part .reals)) (at part) (at p) × SameSize part p
         → Among ones upper angle n t b₀ (bitOr (base + x + x) (ones - ones % x)) (returned (base + x) (base + x + x - (base + x)) b p)
 
     step : Step (2 ^ t)

@@ -12,7 +12,7 @@ ghost use Rattle.book.specs.Kernels.{kernel};
 ghost use Rattle.book.specs.Lent.{before, after, here};
 ghost use Rattle.book.specs.State.{onPairs};
 ghost use Rattle.rules.specs.Rules.{upperOf, upperRule};
-ghost use Rattle.state.specs.Judging.{Seated};
+ghost use Rattle.pairs.specs.Judging.{Seated};
 ghost use Rattle.uppers.specs.Uppers.{masked, turnedAt, HalfTurned};
 
 // Every place of the lent half, one at a turn.

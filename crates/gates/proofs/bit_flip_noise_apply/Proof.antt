@@ -1,6 +1,6 @@
 -- `gates::bit_flip_noise_apply` meets its contract: judged with its two numbers, then X or nothing. Assumes nothing.
 use borrow.Author.Needs.{needs}
-use Rattle.state.proofs.Calls.{flip-kept, flip-not, flip-ran}
+use Rattle.pairs.proofs.Calls.{flip-kept, flip-not, flip-ran}
 use Rattle.gates.proofs.bit_flip_noise_apply.Statement.{statement}
 use Rattle.gates.proofs.bit_flip_noise_apply.Tie as tie
 

@@ -1,6 +1,6 @@
 -- `sweeps::swap_bits` meets its contract: SWAP does not mind the order of its qubits. Assumes nothing.
 use borrow.Author.Needs.{needs}
-use Rattle.state.proofs.Calls.{swap-either}
+use Rattle.pairs.proofs.Swap.{swap-either}
 use Rattle.sweeps.proofs.swap_bits.Statement.{statement}
 use Rattle.sweeps.proofs.swap_bits.Tie as tie
 

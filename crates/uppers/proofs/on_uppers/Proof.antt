@@ -1,6 +1,6 @@
 -- `uppers::on_uppers` meets its contract: judged, then turned block by block. Assumes nothing.
 use borrow.Author.Needs.{needs}
-use Rattle.state.proofs.Judged as J
+use Rattle.pairs.proofs.Judged as J
 use Rattle.uppers.proofs.on_uppers.Statement.{statement}
 use Rattle.uppers.proofs.on_uppers.Tie as tie
 

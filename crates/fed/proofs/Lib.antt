@@ -1,0 +1,2 @@
+-- The rules and the uppers by number.
+pub mod Numbers

@@ -1,0 +1,15 @@
+-- `fed::own_of_upper` meets its contract: Z is fed no number, P an angle. Assumes nothing.
+use Rattle.fed.proofs.Numbers.{none-judged}
+use borrow.Author.Needs.{needs}
+use Rattle.fed.proofs.own_of_upper.Statement.{statement}
+use Rattle.fed.proofs.own_of_upper.Tie as tie
+
+pub own-of-upper-spec : {M : Type 1} → statement M
+own-of-upper-spec =
+    tie.close
+    (tie.spec
+    (λ c. search needs)
+    (λ c. search needs)
+    (λ c κs. search needs)
+    (λ c. rw (c .enum-told .given .1) none-judged)
+    (λ c. rw (c .before .before .upper .given .1) (c .judge-angle .ensures)))

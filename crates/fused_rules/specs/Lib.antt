@@ -1,0 +1,2 @@
+-- What P makes of s1.
+pub mod Uppers

@@ -1,4 +1,0 @@
--- What judging answers, and the pairs of places that a loop goes over.
-pub mod Judging
-pub mod Pairs
-pub mod Runs
