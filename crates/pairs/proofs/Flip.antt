@@ -1,8 +1,7 @@
 -- Bit flip after its judge, in the code's terms: X swept, or nothing. Assumes nothing.
-use Prim.Native.Nat.{ℕ, _+_, _^_}
+use Prim.Native.Nat.{ℕ, _^_}
 use mathlib.Core.Bool.{Bool, true, false, cond}
-use mathlib.Core.List.{List, [], _∷_, _++_}
-use mathlib.Core.Option.{some}
+use mathlib.Core.List.{[], _∷_, _++_}
 use mathlib.Core.Path.{_≡_, refl, sym, ap, _∙_, subst}
 use native.Mathlib.Nat.{zero-add}
 use native.Mathlib.Omega.{arith}
@@ -12,7 +11,7 @@ use lib.Ieee as Ieee
 use types.Run.{OneOf}
 use Rattle.book.proofs.Answer as E
 use Rattle.book.proofs.Refusals.{numbered}
-use Rattle.book.specs.Answers.{value, says, Test, Buffers, Outcome, outcomeOf, Does}
+use Rattle.book.specs.Answers.{value, says, Buffers, Outcome, outcomeOf, Does}
 use Rattle.book.specs.Gates.{xRule, noiseOf, finiteTests}
 use Rattle.book.specs.Kernels.{sizeTests, bitFlipCall}
 use Rattle.book.specs.State.{uncontrolled, onPairs}

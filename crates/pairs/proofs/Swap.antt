@@ -1,7 +1,7 @@
 -- SWAP after its judge, in the code's terms: the higher of its qubits is judged for both, and their order does not matter. Assumes nothing.
 use Prim.Native.Nat.{ℕ, _+_, _^_, _≤_, _<_}
 use mathlib.Core.Bool.{Bool, true, false, _||_}
-use mathlib.Core.List.{List, [], _∷_, _++_}
+use mathlib.Core.List.{[], _∷_, _++_}
 use mathlib.Core.Option.{none}
 use mathlib.Core.Path.{_≡_, refl, ap, ap₂, subst}
 use native.Mathlib.Decide.{decLt}
@@ -11,7 +11,7 @@ use denote.Enum.Declared.{tagOf}
 use lib.Dec.{leb}
 use types.Run.{OneOf}
 use Rattle.book.proofs.Answer as E
-use Rattle.book.specs.Answers.{says, _⇒_, Test, Buffers, Outcome, call, outcomeOf, Does}
+use Rattle.book.specs.Answers.{says, _⇒_, Buffers, Outcome, call, outcomeOf, Does}
 use Rattle.book.specs.Gates.{xRule}
 use Rattle.book.specs.Kernels.{sizeTests, swapped, swapCall}
 use Rattle.book.specs.State.{uncontrolled}

@@ -1,102 +1,17 @@
 // Z and P leave s0 as it is: the upper half of each block of 2 * 2^target places is lent on and written there.
-use book::Amplitude;
 use book::Angle;
 use book::Answer;
 use book::Controls;
-ghost use Prim.Native.Nat.{_%_};
-ghost use lib.ListN.{length};
+use fed::FedUpper;
+use fed::Upper;
+use fed::feed_upper;
+use halves::turn_half;
 ghost use mathlib.Core.Path.{_≡_};
 ghost use Rattle.book.specs.Answers.{Does};
-ghost use Rattle.book.specs.Gates.{pairGate};
-ghost use Rattle.book.specs.Kernels.{kernel};
 ghost use Rattle.book.specs.Lent.{before, after, here};
-ghost use Rattle.book.specs.State.{onPairs};
-ghost use Rattle.rules.specs.Rules.{upperOf, upperRule};
-ghost use Rattle.pairs.specs.Judging.{Seated};
-ghost use Rattle.uppers.specs.Uppers.{masked, turnedAt, HalfTurned};
-
-// Every place of the lent half, one at a turn.
-fn turn_along(reals: &mut [f64], imags: &mut [f64], upper: u32, angle: Angle)
-    requires { ⌜ length (now imags) ≡ length (now reals) ⌝ }
-    ensures { λ _. ⌜ HalfTurned (λ _. upperOf upper angle) (before reals imags) (after reals imags) ⌝ }
-{
-    let mut j = 0;
-    while j < reals.len() {
-        let cd = Amplitude {
-            re: reals[j],
-            im: imags[j],
-        };
-        let turned = rules::put_upper(upper, angle, cd);
-        reals[j] = turned.re;
-        imags[j] = turned.im;
-        j += 1;
-    }
-}
-
-// Two places at a turn: both are read before either is written, and one buffer's stores stand together, so that the compiler can join them.
-fn turn_by_twos(reals: &mut [f64], imags: &mut [f64], upper: u32, angle: Angle)
-    requires { ⌜ (length (now imags) ≡ length (now reals)) × (length (now reals) % 2 ≡ 0) ⌝ }
-    ensures { λ _. ⌜ HalfTurned (λ _. upperOf upper angle) (before reals imags) (after reals imags) ⌝ }
-{
-    let mut j = 0;
-    while j < reals.len() {
-        let k = j + 1;
-        let ab = Amplitude {
-            re: reals[j],
-            im: imags[j],
-        };
-        let cd = Amplitude {
-            re: reals[k],
-            im: imags[k],
-        };
-        let first = rules::put_upper(upper, angle, ab);
-        let second = rules::put_upper(upper, angle, cd);
-        reals[j] = first.re;
-        reals[k] = second.re;
-        imags[j] = first.im;
-        imags[k] = second.im;
-        j += 2;
-    }
-}
-
-// The places that have all bits of low, rising.
-fn turn_chosen(reals: &mut [f64], imags: &mut [f64], low: usize, upper: u32, angle: Angle)
-    requires { ⌜ length (now imags) ≡ length (now reals) ⌝ }
-    ensures { λ _. ⌜ HalfTurned (turnedAt (masked low) upper angle) (before reals imags) (after reals imags) ⌝ }
-{
-    let mut j = low;
-    while j < reals.len() {
-        let cd = Amplitude {
-            re: reals[j],
-            im: imags[j],
-        };
-        let turned = rules::put_upper(upper, angle, cd);
-        reals[j] = turned.re;
-        imags[j] = turned.im;
-        j = (j + 1) | low;
-    }
-}
-
-// From this length on a half is left to the compiler's own joining of turns.
-const LONG: usize = 8;
-
-fn turn_half(reals: &mut [f64], imags: &mut [f64], low: usize, upper: u32, angle: Angle)
-    requires { ⌜ length (now imags) ≡ length (now reals) ⌝ }
-    ensures { λ _. ⌜ HalfTurned (turnedAt (masked low) upper angle) (before reals imags) (after reals imags) ⌝ }
-{
-    if low != 0 {
-        turn_chosen(reals, imags, low, upper, angle);
-        return;
-    }
-    let len = reals.len();
-    if len < LONG {
-        if len % 2 == 0 {
-            turn_by_twos(reals, imags, upper, angle);
-            return;
-        }
-    }
-    turn_along(reals, imags, upper, angle);
-}
+ghost use Rattle.book.specs.State.{controlled, onPairs};
+ghost use Rattle.fed.specs.Named.{loopUpper, upperGate};
+ghost use Rattle.judging.specs.Judging.{Seated};
 
 // Block by block, those whose base has the controls above the target; the upper half of a block is from a to e.
 fn turn_blocks(
@@ -108,8 +23,8 @@ fn turn_blocks(
     upper: u32,
     angle: Angle,
 )
-    requires { ⌜ Seated n target (masked ones) (here reals imags) ⌝ }
-    ensures { λ _. ⌜ after reals imags ≡ onPairs (upperRule upper angle) n target (masked ones) (before reals imags) ⌝ }
+    requires { ⌜ Seated n target (controlled ones) (here reals imags) ⌝ }
+    ensures { λ _. ⌜ after reals imags ≡ onPairs (loopUpper upper angle) n target (controlled ones) (before reals imags) ⌝ }
 {
     let size: usize = 1 << n;
     let bit: usize = 1 << target;
@@ -134,8 +49,8 @@ fn by_target(
     upper: u32,
     angle: Angle,
 )
-    requires { ⌜ Seated n target (masked ones) (here reals imags) ⌝ }
-    ensures { λ _. ⌜ after reals imags ≡ onPairs (upperRule upper angle) n target (masked ones) (before reals imags) ⌝ }
+    requires { ⌜ Seated n target (controlled ones) (here reals imags) ⌝ }
+    ensures { λ _. ⌜ after reals imags ≡ onPairs (loopUpper upper angle) n target (controlled ones) (before reals imags) ⌝ }
 {
     match target {
         0 => turn_blocks(reals, imags, n, target, ones, upper, angle),
@@ -145,30 +60,38 @@ fn by_target(
     }
 }
 
-// A gate that leaves s0 as it is: judged, then turned block by block.
+// Without controls Z has a loop for each of the lowest targets.
+fn turn(reals: &mut [f64], imags: &mut [f64], n: u32, target: u32, ones: usize, fed: FedUpper)
+    requires { ⌜ Seated n target (controlled ones) (here reals imags) ⌝ }
+    ensures { λ _. ⌜ after reals imags ≡ onPairs (loopUpper (fed .number) (fed .angle)) n target (controlled ones) (before reals imags) ⌝ }
+{
+    let number = fed.number;
+    let angle = fed.angle;
+    if ones == 0 {
+        if number == 0 {
+            by_target(reals, imags, n, target, ones, number, angle);
+            return;
+        }
+    }
+    turn_blocks(reals, imags, n, target, ones, number, angle);
+}
+
+// A gate that leaves s0 as it is, from what it is fed: judged once, then turned block by block.
 pub fn on_uppers(
     reals: &mut [f64],
     imags: &mut [f64],
     n: u32,
     target: u32,
     controls: Controls,
-    most: u32,
-    numbers: &[f64],
-    upper: u32,
-    angle: Angle,
+    upper: Upper,
 ) -> Answer
-    ensures { λ r. ⌜ Does (kernel (pairGate (upperRule upper angle) most (now (numbers .entry))) n target controls (before reals imags)) r (after reals imags) ⌝ }
+    ensures { λ r. ⌜ Does (upperGate upper n target controls (before reals imags)) r (after reals imags) ⌝ }
 {
-    let answer = state::judge(reals, imags, n, target, controls, most, numbers);
+    let seat = judging::seat(reals, imags, n, target, controls, fed::most_of_upper(upper));
+    let answer = judging::then(seat, fed::own_of_upper(upper));
     if let Answer::Taken = answer {
-        let ones = controls.ones as usize;
-        if ones == 0 {
-            if upper == 0 {
-                by_target(reals, imags, n, target, ones, upper, angle);
-                return answer;
-            }
-        }
-        turn_blocks(reals, imags, n, target, ones, upper, angle);
+        let fed = feed_upper(upper);
+        turn(reals, imags, n, target, controls.ones as usize, fed);
     }
     answer
 }

@@ -1,0 +1,2 @@
+-- What the writer of an upper half passes over.
+pub mod Picks

@@ -1,0 +1,2 @@
+-- What the writer of an upper half makes of a place.
+pub mod Halves
