@@ -3,19 +3,26 @@
 // delivery does in sessions.
 ghost use Prim.Native.Nat.{_<_};
 
+mod gather;
 mod output;
 mod state;
 mod taker;
 
 use frames::Header;
+use gather::cut_short;
+use gather::empty;
 use output::Output;
 use output::flush;
 use sessions::Session;
 use sessions::Started;
 use state::print_state;
 use taker::Taker;
-use taker::cut_short;
 use taker::take_chunk;
+
+// n is 1 to 11 in the program.
+const MOST_QUBITS: u32 = 11;
+
+const MOST_PLACES: usize = 2048;
 
 // Only this line.
 fn bad_header() {
@@ -38,23 +45,16 @@ fn goes_on(got: usize, cut: bool, open: bool) -> bool {
 // What has been answered is written out before more is waited for.
 fn flushed(taker: Taker, got: usize, out: &[u8]) -> Taker {
     let session = taker.session;
-    let output = flush(
-        out,
-        Output {
-            at: taker.at,
-            open: taker.open,
-        },
-    );
-    let more = goes_on(got, taker.cut, output.open);
+    let gathering = taker.gathering;
+    let before = taker.output;
+    let output = flush(out, before);
+    let more = goes_on(got, gathering.cut, output.open);
     Taker {
         session,
         index: taker.index,
-        have: taker.have,
-        passing: taker.passing,
-        cut: taker.cut,
+        gathering,
+        output,
         more,
-        at: output.at,
-        open: output.open,
     }
 }
 
@@ -109,48 +109,36 @@ fn run_session(input: i32, session: Session, reals: &mut [f64], imags: &mut [f64
     let start = Taker {
         session,
         index: 0,
-        have: 0,
-        passing: 0,
-        cut: false,
+        gathering: empty(),
+        output: Output { at: 0, open: true },
         more: true,
-        at: 0,
-        open: true,
     };
     let end = take_all(input, start, &mut frame, reals, imags, &mut out);
-    let cut = cut_short(end, &frame);
+    let gathering = end.gathering;
+    let cut = cut_short(gathering, &frame);
     let last = end.session;
-    let output = Output {
-        at: end.at,
-        open: end.open,
-    };
+    let output = end.output;
     print_state(cut, last.count, reals, imags, &mut out, output);
 }
 
-// The places that a state of n qubits has.
-fn run_places(input: i32, n: u32, session: Session, reals: &mut [f64], imags: &mut [f64]) {
-    if 11 < n {
-        return;
+// From state real 1 at index 0, with the places that a state of n qubits has.
+fn run_places(input: i32, session: Session, size: usize) {
+    let mut reals = [0.0; MOST_PLACES];
+    let mut imags = [0.0; MOST_PLACES];
+    reals[0] = 1.0;
+    if size <= MOST_PLACES {
+        run_session(input, session, &mut reals[0..size], &mut imags[0..size]);
     }
-    let size: usize = 1 << n;
-    if reals.len() < size {
-        return;
-    }
-    if imags.len() < size {
-        return;
-    }
-    run_session(input, session, &mut reals[..size], &mut imags[..size]);
 }
 
-// From state real 1 at index 0.
 fn run_bench(input: i32, n: u32, number: u32) {
     let started = Session::start(n, number);
     let Started::Fresh(session) = started else {
         return;
     };
-    let mut reals = [0.0; 2048];
-    let mut imags = [0.0; 2048];
-    reals[0] = 1.0;
-    run_places(input, n, session, &mut reals, &mut imags);
+    if n <= MOST_QUBITS {
+        run_places(input, session, 1 << n);
+    }
 }
 
 // From an open descriptor: that of a stored run, or standard input.

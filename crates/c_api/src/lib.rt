@@ -23,5 +23,5 @@ pub extern "C" fn gate_bench_fused(x: f64, y: f64, z: f64) -> f64
 pub extern "C" fn gate_bench_root(x: f64) -> f64
     ensures { λ r. ⌜ r ≡ Def.root binary64 x ⌝ }
 {
-    fused::root(x)
+    roots::root(x)
 }

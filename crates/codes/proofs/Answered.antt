@@ -12,7 +12,8 @@ use lib.ListN.{length, take, drop, length-drop, drop-of-length-le}
 use lib.Seq.{drop-drop, drop-cons, length-take-le}
 use borrow.Author.Tests.{eqb-true, eqb-false}
 use Rattle.book.specs.Records.{number, starts, listed, last, readAngle, readAngles, readForced, plain, angled, eight, second}
-use Rattle.book.specs.Records.{forced, noisy, readGate, made, readRecord}
+use Rattle.book.specs.Records.{forced, noisy, rowOf, readRow, recordWith, readRecord}
+use Rattle.book.specs.State.{controlled}
 use Rattle.book.specs.declared.Angle.{Angle}
 use Rattle.book.specs.declared.Angles.{Angles}
 use Rattle.book.specs.declared.Controls.{Controls}
@@ -23,54 +24,55 @@ use Rattle.wire.specs.Bytes.{Bytes}
 use Rattle.wire.proofs.After.{after1, after2, after3, after4}
 use Rattle.wire.proofs.Fields.{has-room}
 use Rattle.wire.proofs.Numbers.{bytes-take, bytes-drop}
-use Rattle.fields.specs.Answers.{numberOf, pairOf, eightOf, holding, numberField, pair, pairField, anglesField}
-use Rattle.codes.specs.Answers.{maskOf, maskField}
+use Rattle.fields.specs.Answers.{numberThere, pairThere, anglesThere, holding, numberField, twoFloats, pairField, anglesField}
 use Rattle.fields.specs.declared.Field.{Field}
 use Rattle.fields.specs.declared.Field.the-variants.{Number, Missing}
-use Rattle.codes.specs.declared.answers.MaskField.{MaskField}
-use Rattle.codes.specs.declared.answers.MaskField.the-variants.{Controls as Mask, Missing as NoMask}
 use Rattle.fields.specs.declared.PairField.{PairField}
 use Rattle.fields.specs.declared.PairField.the-variants.{Floats, Missing as NoPair}
 use Rattle.fields.specs.declared.AnglesField.{AnglesField}
 use Rattle.fields.specs.declared.AnglesField.the-variants.{Angles as Eight, Missing as NoAngles}
+use Rattle.codes.specs.Masks.{maskThere, maskAnswer}
+use Rattle.codes.specs.declared.MaskField.{MaskField}
+use Rattle.codes.specs.declared.MaskField.the-variants.{Controls as Mask, Missing as NoMask}
 
--- ---- going on from what is there
+-- ---- going on from what is there, and from the place behind it
 
 abbrev then : {A B : Type 0} → Option A → (A → Option B) → Option B
 then (some a) go = go a
 then none go = none
 
-abbrev pub onNumber : {B : Type 0} → Field → (ℕ → Option B) → Option B
-onNumber (Number n) go = go n
+abbrev pub onNumber : {B : Type 0} → Field → (ℕ → ℕ → Option B) → Option B
+onNumber (Number n behind) go = go n behind
 onNumber Missing go = none
 
-abbrev pub onMask : MaskField → (Controls → Option Gate) → Option Gate
-onMask (Mask c) go = go c
+abbrev pub onMask : MaskField → (Controls → ℕ → Option Gate) → Option Gate
+onMask (Mask c behind) go = go c behind
 onMask NoMask go = none
 
-abbrev pub onPair : PairField → (Float → Float → Option Gate) → Option Gate
-onPair (Floats x y) go = go x y
+abbrev pub onPair : PairField → (Float → Float → ℕ → Option Gate) → Option Gate
+onPair (Floats x y behind) go = go x y behind
 onPair NoPair go = none
 
-abbrev pub onAngles : AnglesField → (Angles → Option Gate) → Option Gate
-onAngles (Eight a) go = go a
+abbrev pub onAngles : AnglesField → (Angles → ℕ → Option Gate) → Option Gate
+onAngles (Eight a behind) go = go a behind
 onAngles NoAngles go = none
 
-then-number : {B : Type 0} (o : Option ℕ) (go : ℕ → Option B) → then o go ≡ onNumber (numberOf o) go
-then-number (some n) go = refl
-then-number none go = refl
+then-number : {B : Type 0} (k : ℕ) (o : Option ℕ) (go : ℕ → ℕ → Option B) → then o (λ n. go n k) ≡ onNumber (numberThere k o) go
+then-number k (some n) go = refl
+then-number k none go = refl
 
-then-mask : (o : Option ℕ) (go : Controls → Option Gate) → then o (λ n. go (record { ones = n })) ≡ onMask (maskOf o) go
-then-mask (some n) go = refl
-then-mask none go = refl
+then-mask : (k : ℕ) (o : Option ℕ) (go : Controls → ℕ → Option Gate) → then o (λ n. go (controlled n) k) ≡ onMask (maskThere k o) go
+then-mask k (some n) go = refl
+then-mask k none go = refl
 
-then-pair : (o : Option (Float × Float)) (go : Float → Float → Option Gate) → then o (λ p. go (p .0) (p .1)) ≡ onPair (pairOf o) go
-then-pair (some p) go = refl
-then-pair none go = refl
+then-pair : (k : ℕ) (o : Option (Float × Float)) (go : Float → Float → ℕ → Option Gate)
+    → then o (λ p. go (p .0) (p .1) k) ≡ onPair (pairThere k o) go
+then-pair k (some p) go = refl
+then-pair k none go = refl
 
-then-angles : (o : Option Angles) (go : Angles → Option Gate) → then o go ≡ onAngles (eightOf o) go
-then-angles (some a) go = refl
-then-angles none go = refl
+then-angles : (k : ℕ) (o : Option Angles) (go : Angles → ℕ → Option Gate) → then o (λ a. go a k) ≡ onAngles (anglesThere k o) go
+then-angles k (some a) go = refl
+then-angles k none go = refl
 
 -- ---- the two laws
 
@@ -128,86 +130,95 @@ forced-is (a ∷ b ∷ []) h e =
     λ i. record { outcome = first i; reset = other i }
 forced-is (a ∷ b ∷ d ∷ c) h e = absurd (omega arith)
 
-two-bytes : (s : List ℕ) → Bytes s → (g : Forced → Gate)
-    → forced g (drop 20 s) ≡ listed 0x09 2 (drop 20 s) (λ c rest. last rest (g (record { outcome = number c / 256; reset = number c % 256 })))
+two-bytes : (t at : ℕ) (s : List ℕ) → Bytes s → (g : ℕ → Forced → Gate)
+    → readRow (forced g) t (drop at s) ≡ listed 0x09 2 (drop at s) (λ c rest. last rest (g t (record { outcome = number c / 256; reset = number c % 256 })))
 unfolding listed
-two-bytes s h g = by (starts 0x09 2 (drop 20 s)) refl
+two-bytes t at s h g = by (starts 0x09 2 (drop at s)) refl
   where
-    by : (t : Bool) → starts 0x09 2 (drop 20 s) ≡ t
-        → cond t (last (drop 5 (drop 20 s)) (g (readForced (contents 2 20 s)))) none
-        ≡ cond t (last (drop 5 (drop 20 s)) (g (record { outcome = number (contents 2 20 s) / 256; reset = number (contents 2 20 s) % 256 }))) none
+    by : (x : Bool) → starts 0x09 2 (drop at s) ≡ x
+        → cond x (last (drop 5 (drop at s)) (g t (readForced (contents 2 at s)))) none
+        ≡ cond x (last (drop 5 (drop at s)) (g t (record { outcome = number (contents 2 at s) / 256; reset = number (contents 2 at s) % 256 }))) none
     by true e =
-        let size : length (contents 2 20 s) ≡ 2 = length-take-le 2 (drop 3 (drop 20 s)) (rw length-drop (omega (arith, has-room 0x09 2 (drop 20 s) e))) in
-        let are : Bytes (contents 2 20 s) = bytes-take 2 (drop 3 (drop 20 s)) (bytes-drop 3 (drop 20 s) (bytes-drop 20 s h)) in
-        ap (λ (f : Forced). last (drop 5 (drop 20 s)) (g f)) (forced-is (contents 2 20 s) are size)
+        let size : length (contents 2 at s) ≡ 2 = length-take-le 2 (drop 3 (drop at s)) (rw length-drop (omega (arith, has-room 0x09 2 (drop at s) e))) in
+        let are : Bytes (contents 2 at s) = bytes-take 2 (drop 3 (drop at s)) (bytes-drop 3 (drop at s) (bytes-drop at s h)) in
+        ap (λ (f : Forced). last (drop 5 (drop at s)) (g t f)) (forced-is (contents 2 at s) are size)
     by false e = refl
 
--- ---- a gate, by code
+-- ---- a gate, by its row
 
-module _ (s : List ℕ) where
-  pub plain-by : (g : Controls → Gate) → plain g (drop 20 s) ≡ onMask (maskField (drop 20 s)) (λ c. ending s 27 (g c))
-  plain-by g =
-      goes-last number 0x05 4 20 s (λ n. g (record { ones = n }))
-      ∙ then-mask (holding number 0x05 4 (drop 20 s)) (λ c. ending s 27 (g c))
+module _ (s : List ℕ) (t : ℕ) where
+  pub plain-by : (at : ℕ) (g : ℕ → Controls → Gate) → readRow (plain g) t (drop at s) ≡ onMask (maskAnswer at s) (λ c k. ending s k (g t c))
+  plain-by at g =
+      goes-last number 0x05 4 at s (λ n. g t (controlled n))
+      ∙ then-mask (at + 7) (holding number 0x05 4 (drop at s)) (λ c k. ending s k (g t c))
 
   -- the mask, and then others
-  masked-by : (go : Controls → List ℕ → Option Gate)
-      → listed 0x05 4 (drop 20 s) (λ m rest. go (record { ones = number m }) rest) ≡ onMask (maskField (drop 20 s)) (λ c. go c (drop 27 s))
-  masked-by go =
-      goes-on number 0x05 4 20 s (λ n rest. go (record { ones = n }) rest)
-      ∙ then-mask (holding number 0x05 4 (drop 20 s)) (λ c. go c (drop 27 s))
+  mask-by : (at : ℕ) (go : Controls → List ℕ → Option Gate)
+      → listed 0x05 4 (drop at s) (λ m rest. go (controlled (number m)) rest) ≡ onMask (maskAnswer at s) (λ c k. go c (drop k s))
+  mask-by at go =
+      goes-on number 0x05 4 at s (λ n rest. go (controlled n) rest)
+      ∙ then-mask (at + 7) (holding number 0x05 4 (drop at s)) (λ c k. go c (drop k s))
 
-  pub pair-by : (tag at : ℕ) (g : Float → Float → Gate)
-      → listed tag 16 (drop at s) (λ c rest. last rest (g (pair c .0) (pair c .1))) ≡ onPair (pairField tag (drop at s)) (λ x y. ending s (at + 19) (g x y))
+  pair-by : (tag at : ℕ) (g : Float → Float → Gate)
+      → listed tag 16 (drop at s) (λ c rest. last rest (g (twoFloats c .0) (twoFloats c .1))) ≡ onPair (pairField tag at s) (λ x y k. ending s k (g x y))
   pair-by tag at g =
-      goes-last pair tag 16 at s (λ p. g (p .0) (p .1))
-      ∙ then-pair (holding pair tag 16 (drop at s)) (λ x y. ending s (at + 19) (g x y))
+      goes-last twoFloats tag 16 at s (λ p. g (p .0) (p .1))
+      ∙ then-pair (at + 19) (holding twoFloats tag 16 (drop at s)) (λ x y k. ending s k (g x y))
 
-  pub angled-by : (g : Controls → Angle → Gate)
-      → angled g (drop 20 s)
-      ≡ onMask (maskField (drop 20 s)) (λ c. onPair (pairField 0x07 (drop 27 s)) (λ x y. ending s 46 (g c (record { cosine = x; sine = y }))))
-  angled-by g =
-      masked-by (λ c rest. listed 0x07 16 rest λ a rest′. last rest′ (g c (readAngle a)))
-      ∙ ap (onMask (maskField (drop 20 s))) (λ i c. pair-by 0x07 27 (λ x y. g c (record { cosine = x; sine = y })) i)
+  pub angled-by : (at : ℕ) (g : ℕ → Controls → Angle → Gate)
+      → readRow (angled g) t (drop at s)
+      ≡ onMask (maskAnswer at s) (λ c k. onPair (pairField 0x07 k s) (λ x y k′. ending s k′ (g t c (record { cosine = x; sine = y }))))
+  angled-by at g =
+      mask-by at (λ c rest. listed 0x07 16 rest λ a rest′. last rest′ (g t c (readAngle a)))
+      ∙ ap (onMask (maskAnswer at s)) (λ i c k. pair-by 0x07 k (λ x y. g t c (record { cosine = x; sine = y })) i)
 
-  pub eight-by : (g : Controls → Angles → Gate)
-      → eight g (drop 20 s) ≡ onMask (maskField (drop 20 s)) (λ c. onAngles (anglesField 0x08 (drop 27 s)) (λ a. ending s 94 (g c a)))
-  eight-by g =
-      masked-by (λ c rest. listed 0x08 64 rest λ a rest′. last rest′ (g c (readAngles a)))
-      ∙ ap (onMask (maskField (drop 20 s)))
-      (λ i c. (goes-last readAngles 0x08 64 27 s (g c) ∙ then-angles (holding readAngles 0x08 64 (drop 27 s)) (λ a. ending s 94 (g c a))) i)
+  pub eight-by : (at : ℕ) (g : ℕ → Controls → Angles → Gate)
+      → readRow (eight g) t (drop at s) ≡ onMask (maskAnswer at s) (λ c k. onAngles (anglesField 0x08 k s) (λ a k′. ending s k′ (g t c a)))
+  eight-by at g =
+      mask-by at (λ c rest. listed 0x08 64 rest λ a rest′. last rest′ (g t c (readAngles a)))
+      ∙ ap (onMask (maskAnswer at s))
+      (λ i c k.
+      (goes-last readAngles 0x08 64 k s (g t c)
+      ∙ then-angles (k + 67) (holding readAngles 0x08 64 (drop k s)) (λ a k′. ending s k′ (g t c a))) i)
 
-  pub noisy-by : (g : Noise → Gate) → noisy g (drop 20 s) ≡ onPair (pairField 0x0a (drop 20 s)) (λ x y. ending s 39 (g (record { prob = x; draw = y })))
-  noisy-by g = pair-by 0x0a 20 (λ x y. g (record { prob = x; draw = y }))
+  pub noisy-by : (at : ℕ) (g : ℕ → Noise → Gate)
+      → readRow (noisy g) t (drop at s) ≡ onPair (pairField 0x0a at s) (λ x y k. ending s k (g t (record { prob = x; draw = y })))
+  noisy-by at g = pair-by 0x0a at (λ x y. g t (record { prob = x; draw = y }))
 
   number-last : (tag width at : ℕ) (g : ℕ → Gate)
       → listed tag width (drop at s) (λ c rest. last rest (g (number c)))
-      ≡ onNumber (numberOf (holding number tag width (drop at s))) (λ n. ending s (at + (3 + width)) (g n))
+      ≡ onNumber (numberThere (at + (3 + width)) (holding number tag width (drop at s))) (λ n k. ending s k (g n))
   number-last tag width at g =
-      goes-last number tag width at s g ∙ then-number (holding number tag width (drop at s)) (λ n. ending s (at + (3 + width)) (g n))
+      goes-last number tag width at s g
+      ∙ then-number (at + (3 + width)) (holding number tag width (drop at s)) (λ n k. ending s k (g n))
 
-  pub second-by : (g : ℕ → Gate) → second g (drop 20 s) ≡ onNumber (numberField 0x06 1 (drop 20 s)) (λ u. ending s 24 (g u))
-  second-by g = number-last 0x06 1 20 g
+  pub second-by : (at : ℕ) (g : ℕ → ℕ → Gate)
+      → readRow (second g) t (drop at s) ≡ onNumber (numberField 0x06 1 at s) (λ u k. ending s k (g t u))
+  second-by at g = number-last 0x06 1 at (g t)
 
   -- outcome and reset are the two bytes of the field's number
-  pub forced-by : Bytes s → (g : Forced → Gate)
-      → forced g (drop 20 s) ≡ onNumber (numberField 0x09 2 (drop 20 s)) (λ n. ending s 25 (g (record { outcome = n / 256; reset = n % 256 })))
-  forced-by h g = two-bytes s h g ∙ number-last 0x09 2 20 (λ n. g (record { outcome = n / 256; reset = n % 256 }))
+  pub forced-by : Bytes s → (at : ℕ) (g : ℕ → Forced → Gate)
+      → readRow (forced g) t (drop at s)
+      ≡ onNumber (numberField 0x09 2 at s) (λ n k. ending s k (g t (record { outcome = n / 256; reset = n % 256 })))
+  forced-by h at g = two-bytes t at s h g ∙ number-last 0x09 2 at (λ n. g t (record { outcome = n / 256; reset = n % 256 }))
 
-  -- the first four fields
+-- ---- the first four fields
+
+module _ (s : List ℕ) where
   number-then : {B : Type 0} (tag width at : ℕ) (go : ℕ → List ℕ → Option B)
       → listed tag width (drop at s) (λ c rest. go (number c) rest)
-      ≡ onNumber (numberOf (holding number tag width (drop at s))) (λ n. go n (drop (at + (3 + width)) s))
+      ≡ onNumber (numberThere (at + (3 + width)) (holding number tag width (drop at s))) (λ n k. go n (drop k s))
   number-then tag width at go =
-      goes-on number tag width at s go ∙ then-number (holding number tag width (drop at s)) (λ n. go n (drop (at + (3 + width)) s))
+      goes-on number tag width at s go
+      ∙ then-number (at + (3 + width)) (holding number tag width (drop at s)) (λ n k. go n (drop k s))
 
   pub record-by : readRecord s
-      ≡ onNumber (numberField 0x01 4 (drop 0 s)) (λ session.
-      onNumber (numberField 0x02 2 (drop 7 s)) (λ k.
-      onNumber (numberField 0x03 1 (drop 12 s)) (λ code.
-      onNumber (numberField 0x04 1 (drop 16 s)) (λ target. made session k (readGate code target (drop 20 s))))))
+      ≡ onNumber (numberField 0x01 4 0 s) (λ session k1.
+      onNumber (numberField 0x02 2 k1 s) (λ number k2.
+      onNumber (numberField 0x03 1 k2 s) (λ code k3.
+      onNumber (numberField 0x04 1 k3 s) (λ target k4. recordWith session number (readRow (rowOf code) target (drop k4 s))))))
   record-by =
       number-then 0x01 4 0 after1
-      ∙ ap (onNumber (numberField 0x01 4 (drop 0 s))) (λ i session. (number-then 0x02 2 7 (after2 session)
-      ∙ ap (onNumber (numberField 0x02 2 (drop 7 s))) (λ j k. (number-then 0x03 1 12 (after3 session k)
-      ∙ ap (onNumber (numberField 0x03 1 (drop 12 s))) (λ l code. number-then 0x04 1 16 (after4 session k code) l)) j)) i)
+      ∙ ap (onNumber (numberField 0x01 4 0 s)) (λ i session k1. (number-then 0x02 2 k1 (after2 session)
+      ∙ ap (onNumber (numberField 0x02 2 k1 s)) (λ j number k2. (number-then 0x03 1 k2 (after3 session number)
+      ∙ ap (onNumber (numberField 0x03 1 k2 s)) (λ l code k3. number-then 0x04 1 k3 (after4 session number code) l)) j)) i)

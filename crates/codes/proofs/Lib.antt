@@ -1,3 +1,2 @@
--- Answered: the book's readings by the code's answers. Codes: the codes that share a shape.
+-- Answered: the book's readings by the answers that the code takes apart.
 pub mod Answered
-mod Codes

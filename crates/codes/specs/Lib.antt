@@ -1,2 +1,2 @@
--- What the functions of this crate answer.
-pub mod Answers
+-- What the field of the mask answers.
+pub mod Masks

@@ -1,13 +1,10 @@
-// The fields behind 04, by the gate's code. They start at place 20.
+// The fields behind 04, by the gate's code, from a place of the bytes on. Each field hands on the place behind it.
 ghost use mathlib.Core.Path.{_≡_};
+ghost use Prim.Native.Nat.{_≤_};
 ghost use lib.ListN.{drop};
-ghost use Rattle.book.specs.Records.{plain, angled, eight, second, forced, noisy, readGate};
-ghost use Rattle.codes.specs.Answers.{madeOf, maskField, plainGate, angledGate};
-
-mod answers;
-
-pub use answers::Made;
-use answers::MaskField;
+ghost use Rattle.book.specs.Records.{plain, angled, eight, second, forced, noisy, rowOf, readRow};
+ghost use Rattle.shapes.specs.Gates.{madeOf, plainGate, angledGate};
+ghost use Rattle.codes.specs.Masks.{maskAnswer};
 use book::Angle;
 use book::Controls;
 use book::Forced;
@@ -19,107 +16,92 @@ use fields::PairField;
 use fields::angles_field;
 use fields::number_field;
 use fields::pair_field;
+use shapes::Made;
+use shapes::angled_gate;
+use shapes::plain_gate;
 
-// Field 05.
-fn mask_field(bytes: &[u8]) -> MaskField
-    ensures { λ r. ⌜ r ≡ maskField (drop 20 (now (bytes .entry))) ⌝ }
-{
-    let Field::Number(mask) = number_field(bytes, 20, 0x05, 4) else {
-        return MaskField::Missing;
-    };
-    MaskField::Controls(Controls { ones: mask as u32 })
+// What the field of the mask answers.
+pub enum MaskField {
+    Controls(Controls, usize),
+    Missing,
 }
 
-// The gates of codes 1 to 4.
-fn plain_gate(code: u64, target: u8, controls: Controls) -> Gate
-    ensures { λ r. ⌜ r ≡ plainGate code target controls ⌝ }
+// Field 05.
+fn mask_field(bytes: &[u8], at: usize) -> MaskField
+    ensures { λ r. ⌜ r ≡ maskAnswer at (now (bytes .entry)) ⌝ }
 {
-    match code {
-        1 => Gate::H(target, controls),
-        2 => Gate::X(target, controls),
-        3 => Gate::Y(target, controls),
-        _ => Gate::Z(target, controls),
-    }
+    let Field::Number(mask, behind) = number_field(bytes, at, 0x05, 4) else {
+        return MaskField::Missing;
+    };
+    MaskField::Controls(Controls::of(mask as u32), behind)
 }
 
 // Codes 1 to 4: the mask, and nothing after.
-fn read_plain(bytes: &[u8], code: u64, target: u8) -> Made
-    ensures { λ r. ⌜ r ≡ madeOf (plain (plainGate code target) (drop 20 (now (bytes .entry)))) ⌝ }
+fn read_plain(bytes: &[u8], at: usize, code: u32, target: u8) -> Made
+    ensures { λ r. ⌜ r ≡ madeOf (readRow (plain (plainGate code)) target (drop at (now (bytes .entry)))) ⌝ }
 {
-    let MaskField::Controls(controls) = mask_field(bytes) else {
+    let MaskField::Controls(controls, behind) = mask_field(bytes, at) else {
         return Made::Missing;
     };
-    if bytes.len() != 27 {
+    if bytes.len() != behind {
         return Made::Missing;
     }
     Made::Gate(plain_gate(code, target, controls))
 }
 
-// The gates of codes 5 to 8.
-fn angled_gate(code: u64, target: u8, controls: Controls, angle: Angle) -> Gate
-    ensures { λ r. ⌜ r ≡ angledGate code target controls angle ⌝ }
-{
-    match code {
-        5 => Gate::P(target, controls, angle),
-        6 => Gate::Rx(target, controls, angle),
-        7 => Gate::Ry(target, controls, angle),
-        _ => Gate::Rz(target, controls, angle),
-    }
-}
-
 // Codes 5 to 8: the mask, cosine and sine, and nothing after.
-fn read_angled(bytes: &[u8], code: u64, target: u8) -> Made
-    ensures { λ r. ⌜ r ≡ madeOf (angled (angledGate code target) (drop 20 (now (bytes .entry)))) ⌝ }
+fn read_angled(bytes: &[u8], at: usize, code: u32, target: u8) -> Made
+    ensures { λ r. ⌜ r ≡ madeOf (readRow (angled (angledGate code)) target (drop at (now (bytes .entry)))) ⌝ }
 {
-    let MaskField::Controls(controls) = mask_field(bytes) else {
+    let MaskField::Controls(controls, next) = mask_field(bytes, at) else {
         return Made::Missing;
     };
-    let PairField::Floats(cosine, sine) = pair_field(bytes, 27, 0x07) else {
+    let PairField::Floats(cosine, sine, end) = pair_field(bytes, next, 0x07) else {
         return Made::Missing;
     };
-    if bytes.len() != 46 {
+    if bytes.len() != end {
         return Made::Missing;
     }
     Made::Gate(angled_gate(code, target, controls, Angle { cosine, sine }))
 }
 
 // Code 9: the mask, the eight numbers of U, and nothing after.
-fn read_u(bytes: &[u8], target: u8) -> Made
-    ensures { λ r. ⌜ r ≡ madeOf (eight (Gate.U target) (drop 20 (now (bytes .entry)))) ⌝ }
+fn read_u(bytes: &[u8], at: usize, target: u8) -> Made
+    ensures { λ r. ⌜ r ≡ madeOf (readRow (eight Gate.U) target (drop at (now (bytes .entry)))) ⌝ }
 {
-    let MaskField::Controls(controls) = mask_field(bytes) else {
+    let MaskField::Controls(controls, next) = mask_field(bytes, at) else {
         return Made::Missing;
     };
-    let AnglesField::Angles(angles) = angles_field(bytes, 27, 0x08) else {
+    let AnglesField::Angles(angles, behind) = angles_field(bytes, next, 0x08) else {
         return Made::Missing;
     };
-    if bytes.len() != 94 {
+    if bytes.len() != behind {
         return Made::Missing;
     }
     Made::Gate(Gate::U(target, controls, angles))
 }
 
 // Code 10: the second qubit, and nothing after.
-fn read_swap(bytes: &[u8], target: u8) -> Made
-    ensures { λ r. ⌜ r ≡ madeOf (second (Gate.Swap target) (drop 20 (now (bytes .entry)))) ⌝ }
+fn read_swap(bytes: &[u8], at: usize, target: u8) -> Made
+    ensures { λ r. ⌜ r ≡ madeOf (readRow (second Gate.Swap) target (drop at (now (bytes .entry)))) ⌝ }
 {
-    let Field::Number(other) = number_field(bytes, 20, 0x06, 1) else {
+    let Field::Number(other, behind) = number_field(bytes, at, 0x06, 1) else {
         return Made::Missing;
     };
-    if bytes.len() != 24 {
+    if bytes.len() != behind {
         return Made::Missing;
     }
     Made::Gate(Gate::Swap(target, other as u8))
 }
 
 // Code 11: outcome and reset, the two bytes of one number, and nothing after.
-fn read_measure(bytes: &[u8], target: u8) -> Made
-    ensures { λ r. ⌜ r ≡ madeOf (forced (Gate.Measure target) (drop 20 (now (bytes .entry)))) ⌝ }
+fn read_measure(bytes: &[u8], at: usize, target: u8) -> Made
+    ensures { λ r. ⌜ r ≡ madeOf (readRow (forced Gate.Measure) target (drop at (now (bytes .entry)))) ⌝ }
 {
-    let Field::Number(both) = number_field(bytes, 20, 0x09, 2) else {
+    let Field::Number(both, behind) = number_field(bytes, at, 0x09, 2) else {
         return Made::Missing;
     };
-    if bytes.len() != 25 {
+    if bytes.len() != behind {
         return Made::Missing;
     }
     Made::Gate(Gate::Measure(
@@ -132,29 +114,29 @@ fn read_measure(bytes: &[u8], target: u8) -> Made
 }
 
 // Code 12: prob and draw, and nothing after.
-fn read_flip(bytes: &[u8], target: u8) -> Made
-    ensures { λ r. ⌜ r ≡ madeOf (noisy (Gate.BitFlip target) (drop 20 (now (bytes .entry)))) ⌝ }
+fn read_flip(bytes: &[u8], at: usize, target: u8) -> Made
+    ensures { λ r. ⌜ r ≡ madeOf (readRow (noisy Gate.BitFlip) target (drop at (now (bytes .entry)))) ⌝ }
 {
-    let PairField::Floats(prob, draw) = pair_field(bytes, 20, 0x0a) else {
+    let PairField::Floats(prob, draw, behind) = pair_field(bytes, at, 0x0a) else {
         return Made::Missing;
     };
-    if bytes.len() != 39 {
+    if bytes.len() != behind {
         return Made::Missing;
     }
     Made::Gate(Gate::BitFlip(target, Noise { prob, draw }))
 }
 
 // The fields behind 04, by code.
-pub fn read_gate(bytes: &[u8], code: u64, target: u8) -> Made
-    ensures { λ r. ⌜ r ≡ madeOf (readGate code target (drop 20 (now (bytes .entry)))) ⌝ }
+pub fn read_gate(bytes: &[u8], at: usize, code: u32, target: u8) -> Made
+    ensures { λ r. ⌜ r ≡ madeOf (readRow (rowOf code) target (drop at (now (bytes .entry)))) ⌝ }
 {
     match code {
-        1 | 2 | 3 | 4 => read_plain(bytes, code, target),
-        5 | 6 | 7 | 8 => read_angled(bytes, code, target),
-        9 => read_u(bytes, target),
-        10 => read_swap(bytes, target),
-        11 => read_measure(bytes, target),
-        12 => read_flip(bytes, target),
+        1 | 2 | 3 | 4 => read_plain(bytes, at, code, target),
+        5 | 6 | 7 | 8 => read_angled(bytes, at, code, target),
+        9 => read_u(bytes, at, target),
+        10 => read_swap(bytes, at, target),
+        11 => read_measure(bytes, at, target),
+        12 => read_flip(bytes, at, target),
         _ => Made::Missing,
     }
 }

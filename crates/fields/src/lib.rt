@@ -1,4 +1,4 @@
-// Fields of a gate record, read at a place of the bytes. Each answers what it holds, or that it is not there as listed.
+// Fields of a gate record, read at a place of the bytes. Each answers what it holds and the place behind it, or that it is not there as listed.
 ghost use mathlib.Core.Path.{_≡_};
 ghost use Prim.Native.Nat.{ℕ, _+_, _*_, _^_, _≤_, _<_};
 ghost use lib.ListN.{length, take, drop};
@@ -8,19 +8,19 @@ use book::Angles;
 
 // What a field of one number answers.
 pub enum Field {
-    Number(u64),
+    Number(u64, usize),
     Missing,
 }
 
 // What a field of two floats answers.
 pub enum PairField {
-    Floats(f64, f64),
+    Floats(f64, f64, usize),
     Missing,
 }
 
 // What a field of the eight numbers of U answers.
 pub enum AnglesField {
-    Angles(Angles),
+    Angles(Angles, usize),
     Missing,
 }
 
@@ -61,14 +61,14 @@ fn starts_at(bytes: &[u8], at: usize, tag: u8, len: usize) -> bool
 
 // The field of one number that is listed at the place. A field of more than 8 bytes holds none.
 pub fn number_field(bytes: &[u8], at: usize, tag: u8, width: usize) -> Field
-    ensures is { λ r. ⌜ r ≡ numberField tag width (drop at (now (bytes .entry))) ⌝ }
-    ensures small { λ r. ⌜ ((n : ℕ) → r ≡ Field.Number n → n < 256 ^ width) ⌝ }
+    ensures is { λ r. ⌜ r ≡ numberField tag width at (now (bytes .entry)) ⌝ }
+    ensures small { λ r. ⌜ ((n behind : ℕ) → r ≡ Field.Number n behind → n < 256 ^ width) ⌝ }
 {
     if WIDEST < width {
         return Field::Missing;
     }
     if starts_at(bytes, at, tag, width) {
-        Field::Number(number_at(bytes, at + 3, width))
+        Field::Number(number_at(bytes, at + 3, width), at + (3 + width))
     } else {
         Field::Missing
     }
@@ -84,10 +84,14 @@ fn float_at(bytes: &[u8], start: usize, i: usize) -> f64
 
 // The field of two floats that is listed at the place.
 pub fn pair_field(bytes: &[u8], at: usize, tag: u8) -> PairField
-    ensures { λ r. ⌜ r ≡ pairField tag (drop at (now (bytes .entry))) ⌝ }
+    ensures { λ r. ⌜ r ≡ pairField tag at (now (bytes .entry)) ⌝ }
 {
     if starts_at(bytes, at, tag, 16) {
-        PairField::Floats(float_at(bytes, at + 3, 0), float_at(bytes, at + 3, 1))
+        PairField::Floats(
+            float_at(bytes, at + 3, 0),
+            float_at(bytes, at + 3, 1),
+            at + 19,
+        )
     } else {
         PairField::Missing
     }
@@ -112,10 +116,10 @@ fn angles_at(bytes: &[u8], at: usize) -> Angles
 
 // The field of eight floats that is listed at the place.
 pub fn angles_field(bytes: &[u8], at: usize, tag: u8) -> AnglesField
-    ensures { λ r. ⌜ r ≡ anglesField tag (drop at (now (bytes .entry))) ⌝ }
+    ensures { λ r. ⌜ r ≡ anglesField tag at (now (bytes .entry)) ⌝ }
 {
     if starts_at(bytes, at, tag, 64) {
-        AnglesField::Angles(angles_at(bytes, at + 3))
+        AnglesField::Angles(angles_at(bytes, at + 3), at + 67)
     } else {
         AnglesField::Missing
     }

@@ -4,14 +4,14 @@ use native.Mathlib.Omega.{arith}
 use mathlib.Core.Option.{some}
 use mathlib.Core.Path.{_≡_}
 use borrow.Author.Tests.{le-ltb}
-use Rattle.book.specs.Records.{targetOf}
+use Rattle.book.specs.Records.{partsOf}
 use Rattle.book.specs.declared.Gate.{Gate}
 use Rattle.book.specs.declared.Gate.the-variants.{H, X, Y, Z, P, Rx, Ry, Rz, U, Swap, Measure, BitFlip}
 use Rattle.book.specs.declared.Record.{Record}
 use Rattle.records.specs.RoundTrips.{OwnFits}
 use Rattle.flat.specs.Numbers.{flatFields, flatNumbers, tooFew, recordOf, FlatBack}
 
-by-gate : (s k : ℕ) (g : Gate) → k < 2 ^ 16 → targetOf g < 256 → OwnFits g
+by-gate : (s k : ℕ) (g : Gate) → k < 2 ^ 16 → partsOf g .target < 256 → OwnFits (partsOf g .shape)
     → (let r : Record = record { session = s; number = k; gate = g } in recordOf (flatFields r) (flatNumbers r) ≡ some r)
 unfolding recordOf tooFew
 by-gate s k (H t c) n h o = rw (le-ltb 65535 k (omega arith), le-ltb 255 t (omega arith))

@@ -1,6 +1,5 @@
--- Codes: no gate has another code. Puts: what straight-line stores leave. Recorded: the record that flat numbers are, test by test.
+-- Puts: what straight-line stores leave. Recorded: the record that flat numbers are, test by test.
 -- Back: a record comes back from its numbers.
-pub mod Codes
 pub mod Puts
 pub mod Recorded
 pub mod Back

@@ -9,14 +9,15 @@ use lib.Dec.{ltb}
 use lib.Ieee.{Float}
 use lib.ListN.{length, getD}
 use borrow.Author.Tests.{ltb-false, lt-ltb, le-ltb}
-use Rattle.book.specs.Records.{made, readOf}
+use Rattle.book.specs.Records.{rowOf, recordWith, readOf}
 use Rattle.book.specs.declared.Angles.{Angles}
 use Rattle.book.specs.declared.Gate.{Gate}
 use Rattle.book.specs.declared.Read.the-variants.{Record as Found, Refused as Unread}
 use Rattle.book.specs.declared.Refusal.the-variants.{Record as NoRecord}
-use Rattle.flat.specs.Numbers.{tooFew, gateOf, numbersAt, madeOf, recordOf}
-use Rattle.flat.specs.declared.Made.{Made}
-use Rattle.flat.specs.declared.Made.the-variants.{Gate as Whole, Missing}
+use Rattle.flat.specs.Numbers.{tooFew, gateOf, numbersAt, recordOf}
+use Rattle.shapes.specs.Gates.{madeOf}
+use Rattle.shapes.specs.declared.Made.{Made}
+use Rattle.shapes.specs.declared.Made.the-variants.{Gate as Whole, Missing}
 
 module _ (fs : List ℕ) (xs : List Float) where
   pub enough : tooFew fs xs ≡ false → (6 ≤ length fs) × (8 ≤ length xs)
@@ -43,18 +44,18 @@ module _ (fs : List ℕ) (xs : List Float) where
 
       module _ (byte : getD fs 3 0 ≤ 255) where
         abbrev gate : Angles → Option Gate
-        gate eight = gateOf (getD fs 2 0) (getD fs 3 0) (getD fs 4 0) (getD fs 5 0) eight
+        gate eight = gateOf (rowOf (getD fs 2 0)) (getD fs 3 0) (getD fs 4 0) (getD fs 5 0) eight
 
-        judged : recordOf fs xs ≡ made (getD fs 0 0) (getD fs 1 0) (gate (numbersAt xs))
+        judged : recordOf fs xs ≡ recordWith (getD fs 0 0) (getD fs 1 0) (gate (numbersAt xs))
         unfolding recordOf
         judged = rw (e, le-ltb 65535 (getD fs 1 0) fits, le-ltb 255 (getD fs 3 0) byte)
 
-        no-made : (o : Option Gate) → madeOf o ≡ Missing → Unread NoRecord ≡ readOf (made (getD fs 0 0) (getD fs 1 0) o)
+        no-made : (o : Option Gate) → madeOf o ≡ Missing → Unread NoRecord ≡ readOf (recordWith (getD fs 0 0) (getD fs 1 0) o)
         no-made (some g) q = let z : _≡_ {A = ℕ} 0 1 = cc in absurd (omega arith)
         no-made none q = refl
 
         a-made : (g : Gate) (o : Option Gate) → madeOf o ≡ Whole g
-            → Found (record { session = getD fs 0 0; number = getD fs 1 0; gate = g }) ≡ readOf (made (getD fs 0 0) (getD fs 1 0) o)
+            → Found (record { session = getD fs 0 0; number = getD fs 1 0; gate = g }) ≡ readOf (recordWith (getD fs 0 0) (getD fs 1 0) o)
         a-made g (some h) q = cc
         a-made g none q = let z : _≡_ {A = ℕ} 0 1 = cc in absurd (omega arith)
 

@@ -8,21 +8,21 @@ use lib.Dec.{ltb}
 use lib.Ieee.{Float, nan}
 use lib.ListN.{length, drop, getD}
 use Rattle.book.specs.Gates.{nought, anglesOf}
-use Rattle.book.specs.Records.{made}
+use Rattle.book.specs.Records.{partsOf, Row, plain, angled, eight, second, forced, noisy, unlisted, rowOf, recordWith}
+use Rattle.book.specs.State.{controlled}
 use Rattle.book.specs.declared.Angle.{Angle}
 use Rattle.book.specs.declared.Angles.{Angles}
 use Rattle.book.specs.declared.Answer.{Answer}
 use Rattle.book.specs.declared.Answer.the-variants.{Taken, Refused}
-use Rattle.book.specs.declared.Controls.{Controls}
 use Rattle.book.specs.declared.Gate.{Gate}
-use Rattle.book.specs.declared.Gate.the-variants.{H, X, Y, Z, P, Rx, Ry, Rz, U, Swap, Measure, BitFlip}
+use Rattle.book.specs.declared.Gate.the-variants.{Swap, Measure}
 use Rattle.book.specs.declared.Noise.{Noise}
 use Rattle.book.specs.declared.Record.{Record}
 use Rattle.book.specs.declared.Refusal.the-variants.{Room}
+use Rattle.book.specs.declared.Shape.{Shape}
+use Rattle.book.specs.declared.Shape.the-variants.{Plain, Angled, Eight, Second, Forced, Noisy}
 use Rattle.records.specs.RoundTrips.{Held}
 use Rattle.flat.specs.declared.Flat.{Flat}
-use Rattle.flat.specs.declared.Made.{Made}
-use Rattle.flat.specs.declared.Made.the-variants.{Gate as Found, Missing}
 
 -- ---- a record's numbers
 
@@ -31,35 +31,26 @@ abbrev pub two : Float → Float → Angles
 two x y =
     record { ct = x; st = y; cl = nought; sl = nought; cpl = nought; spl = nought; cp = nought; sp = nought }
 
-abbrev pub coded : ℕ → ℕ → ℕ → ℕ → Angles → Flat
-coded code target second reset numbers =
-    record { code = code; target = target; second = second; reset = reset; numbers = numbers }
+abbrev pub laid : ℕ → ℕ → Angles → Flat
+laid other reset numbers = record { second = other; reset = reset; numbers = numbers }
 
-abbrev pub masked : ℕ → ℕ → Controls → Angles → Flat
-masked code t c numbers = coded code t (c .ones) 0 numbers
-
-abbrev pub flatOf : Gate → Flat
-flatOf (H t c) = masked 1 t c (two nought nought)
-flatOf (X t c) = masked 2 t c (two nought nought)
-flatOf (Y t c) = masked 3 t c (two nought nought)
-flatOf (Z t c) = masked 4 t c (two nought nought)
-flatOf (P t c a) = masked 5 t c (two (a .cosine) (a .sine))
-flatOf (Rx t c a) = masked 6 t c (two (a .cosine) (a .sine))
-flatOf (Ry t c a) = masked 7 t c (two (a .cosine) (a .sine))
-flatOf (Rz t c a) = masked 8 t c (two (a .cosine) (a .sine))
-flatOf (U t c g) = masked 9 t c g
-flatOf (Swap t u) = coded 10 t u 0 (two nought nought)
-flatOf (Measure t f) = coded 11 t (f .outcome) (f .reset) (two nought nought)
-flatOf (BitFlip t n) = coded 12 t 0 0 (two (n .prob) (n .draw))
+abbrev pub flatOf : Shape → Flat
+flatOf (Plain c) = laid (c .ones) 0 (two nought nought)
+flatOf (Angled c a) = laid (c .ones) 0 (two (a .cosine) (a .sine))
+flatOf (Eight c g) = laid (c .ones) 0 g
+flatOf (Second u) = laid u 0 (two nought nought)
+flatOf (Forced f) = laid (f .outcome) (f .reset) (two nought nought)
+flatOf (Noisy n) = laid 0 0 (two (n .prob) (n .draw))
 
 -- session, number, code, target, second, reset
 abbrev pub flatFields : Record → List ℕ
 flatFields r =
-    let f = flatOf (r .gate) in
-    r .session ∷ r .number ∷ f .code ∷ f .target ∷ f .second ∷ f .reset ∷ []
+    let p = partsOf (r .gate) in
+    let f = flatOf (p .shape) in
+    r .session ∷ r .number ∷ p .code ∷ p .target ∷ f .second ∷ f .reset ∷ []
 
 abbrev pub flatNumbers : Record → List Float
-flatNumbers r = anglesOf (flatOf (r .gate) .numbers)
+flatNumbers r = anglesOf (flatOf (partsOf (r .gate) .shape) .numbers)
 
 -- a list with its first places written over
 abbrev pub over : {A : Type 0} → List A → List A → List A
@@ -89,55 +80,32 @@ noise g = record { prob = g .ct; draw = g .st }
 
 -- SWAP's second qubit, a measurement's outcome and its reset are bytes
 abbrev pub swapOf : ℕ → ℕ → Option Gate
-swapOf t second = byte second (some (Swap t second))
+swapOf t other = byte other (some (Swap t other))
 
 abbrev pub measureOf : ℕ → ℕ → ℕ → Option Gate
 measureOf t outcome reset = byte outcome (byte reset (some (Measure t (record { outcome = outcome; reset = reset }))))
 
--- the gates of codes 1, 2, .. 12; what a gate does not have is not looked at
-abbrev pub byCode : ℕ → ℕ → ℕ → Angles → List (Option Gate)
-byCode t second reset g =
-    let c : Controls = record { ones = second } in
-    some (H t c)
-    ∷ some (X t c)
-    ∷ some (Y t c)
-    ∷ some (Z t c)
-    ∷ some (P t c (angle g))
-    ∷ some (Rx t c (angle g))
-    ∷ some (Ry t c (angle g))
-    ∷ some (Rz t c (angle g))
-    ∷ some (U t c g)
-    ∷ swapOf t second
-    ∷ measureOf t second reset
-    ∷ some (BitFlip t (noise g))
-    ∷ []
-
-abbrev pub gateOf : ℕ → ℕ → ℕ → ℕ → Angles → Option Gate
-gateOf code t second reset g = getD (none ∷ byCode t second reset g) code none
-
-abbrev pub madeOf : Option Gate → Made
-madeOf (some g) = Found g
-madeOf none = Missing
+-- the gate of a row of the book's table; what a gate does not have is not looked at
+abbrev pub gateOf : Row → ℕ → ℕ → ℕ → Angles → Option Gate
+gateOf (plain h) t mask reset g = some (h t (controlled mask))
+gateOf (angled h) t mask reset g = some (h t (controlled mask) (angle g))
+gateOf (eight h) t mask reset g = some (h t (controlled mask) g)
+gateOf (second h) t other reset g = byte other (some (h t other))
+gateOf (forced h) t outcome reset g = byte outcome (byte reset (some (h t (record { outcome = outcome; reset = reset }))))
+gateOf (noisy h) t other reset g = some (h t (noise g))
+gateOf unlisted t other reset g = none
 
 abbrev pub numbersAt : List Float → Angles
 numbersAt xs =
-    record {
-      ct = getD xs 0 nan;
-      st = getD xs 1 nan;
-      cl = getD xs 2 nan;
-      sl = getD xs 3 nan;
-      cpl = getD xs 4 nan;
-      spl = getD xs 5 nan;
-      cp = getD xs 6 nan;
-      sp = getD xs 7 nan;
-    }
+    let x : ℕ → Float = λ i. getD xs i nan in
+    record { ct = x 0; st = x 1; cl = x 2; sl = x 3; cpl = x 4; spl = x 5; cp = x 6; sp = x 7 }
 
 -- the record that the first places are; none where there are too few, or a number is beyond what a record holds there
 unfoldable pub recordOf : List ℕ → List Float → Option Record
 recordOf fs xs =
     cond (tooFew fs xs || ltb 65535 (getD fs 1 0) || ltb 255 (getD fs 3 0))
     none
-    (made (getD fs 0 0) (getD fs 1 0) (gateOf (getD fs 2 0) (getD fs 3 0) (getD fs 4 0) (getD fs 5 0) (numbersAt xs)))
+    (recordWith (getD fs 0 0) (getD fs 1 0) (gateOf (rowOf (getD fs 2 0)) (getD fs 3 0) (getD fs 4 0) (getD fs 5 0) (numbersAt xs)))
 
 -- a record comes back from its numbers
 abbrev pub FlatBack : Type 0

@@ -9,48 +9,44 @@ use book::Noise;
 use book::Read;
 use book::Record;
 use book::Refusal;
+use book::Shape;
+use shapes::Made;
+use shapes::angled_gate;
+use shapes::parts_of;
+use shapes::plain_gate;
 ghost use mathlib.Core.Path.{_≡_};
 ghost use Prim.Native.Nat.{_≤_};
 ghost use lib.ListN.{length};
-ghost use Rattle.book.specs.Records.{readOf};
-ghost use Rattle.flat.specs.Numbers.{two, coded, flatOf, over, flatFields, flatNumbers, tooFew, Puts};
-ghost use Rattle.flat.specs.Numbers.{numbersAt, madeOf, swapOf, measureOf, gateOf, recordOf};
+ghost use Rattle.book.specs.Records.{rowOf, readOf};
+ghost use Rattle.flat.specs.Numbers.{two, laid, flatOf, over, flatFields, flatNumbers, tooFew, Puts};
+ghost use Rattle.flat.specs.Numbers.{numbersAt, swapOf, measureOf, gateOf, recordOf};
+ghost use Rattle.shapes.specs.Gates.{madeOf};
 
 // How many places a record's numbers take.
 const FIELDS: usize = 6;
 
 const NUMBERS: usize = 8;
 
-// What stands behind session and number. The floats are U's eight; another gate's stand in the first places.
+// What stands behind session, number, code and target. The floats are U's eight; another gate's stand in the first places.
 pub struct Flat {
-    pub code: u32,
-    pub target: u32,
     pub second: u32,
     pub reset: u32,
     pub numbers: Angles,
 }
 
-// A gate, or none.
-pub enum Made {
-    Gate(Gate),
-    Missing,
-}
-
-fn coded(code: u32, target: u8, second: u32, reset: u8, numbers: Angles) -> Flat
-    ensures { λ r. ⌜ r ≡ coded code target second reset numbers ⌝ }
+fn laid(second: u32, reset: u32, numbers: Angles) -> Flat
+    ensures { λ r. ⌜ r ≡ laid second reset numbers ⌝ }
 {
     Flat {
-        code,
-        target: target as u32,
         second,
-        reset: reset as u32,
+        reset,
         numbers,
     }
 }
 
 // A gate with two numbers at most.
-fn paired(code: u32, target: u8, second: u32, reset: u8, x: f64, y: f64) -> Flat
-    ensures { λ r. ⌜ r ≡ coded code target second reset (two x y) ⌝ }
+fn paired(second: u32, reset: u32, x: f64, y: f64) -> Flat
+    ensures { λ r. ⌜ r ≡ laid second reset (two x y) ⌝ }
 {
     let numbers = Angles {
         ct: x,
@@ -62,25 +58,19 @@ fn paired(code: u32, target: u8, second: u32, reset: u8, x: f64, y: f64) -> Flat
         cp: 0.0,
         sp: 0.0,
     };
-    coded(code, target, second, reset, numbers)
+    laid(second, reset, numbers)
 }
 
-fn flat_of(gate: Gate) -> Flat
-    ensures { λ r. ⌜ r ≡ flatOf gate ⌝ }
+fn flat_of(shape: Shape) -> Flat
+    ensures { λ r. ⌜ r ≡ flatOf shape ⌝ }
 {
-    match gate {
-        Gate::H(t, c) => paired(1, t, c.ones, 0, 0.0, 0.0),
-        Gate::X(t, c) => paired(2, t, c.ones, 0, 0.0, 0.0),
-        Gate::Y(t, c) => paired(3, t, c.ones, 0, 0.0, 0.0),
-        Gate::Z(t, c) => paired(4, t, c.ones, 0, 0.0, 0.0),
-        Gate::P(t, c, a) => paired(5, t, c.ones, 0, a.cosine, a.sine),
-        Gate::Rx(t, c, a) => paired(6, t, c.ones, 0, a.cosine, a.sine),
-        Gate::Ry(t, c, a) => paired(7, t, c.ones, 0, a.cosine, a.sine),
-        Gate::Rz(t, c, a) => paired(8, t, c.ones, 0, a.cosine, a.sine),
-        Gate::U(t, c, g) => coded(9, t, c.ones, 0, g),
-        Gate::Swap(t, u) => paired(10, t, u as u32, 0, 0.0, 0.0),
-        Gate::Measure(t, f) => paired(11, t, f.outcome as u32, f.reset, 0.0, 0.0),
-        Gate::BitFlip(t, n) => paired(12, t, 0, 0, n.prob, n.draw),
+    match shape {
+        Shape::Plain(c) => paired(c.ones, 0, 0.0, 0.0),
+        Shape::Angled(c, a) => paired(c.ones, 0, a.cosine, a.sine),
+        Shape::Eight(c, g) => laid(c.ones, 0, g),
+        Shape::Second(u) => paired(u as u32, 0, 0.0, 0.0),
+        Shape::Forced(f) => paired(f.outcome as u32, f.reset as u32, 0.0, 0.0),
+        Shape::Noisy(n) => paired(0, 0, n.prob, n.draw),
     }
 }
 
@@ -99,11 +89,13 @@ fn put_fields(it: Record, fields: &mut [u32])
     ensures { λ _. ⌜ now (fields .exit) ≡ over (flatFields it) (now (fields .entry)) ⌝ }
 {
     let gate = it.gate;
-    let flat = flat_of(gate);
+    let parts = parts_of(gate);
+    let shape = parts.shape;
+    let flat = flat_of(shape);
     fields[0] = it.session;
     fields[1] = it.number as u32;
-    fields[2] = flat.code;
-    fields[3] = flat.target;
+    fields[2] = parts.code as u32;
+    fields[3] = parts.target as u32;
     fields[4] = flat.second;
     fields[5] = flat.reset;
 }
@@ -113,7 +105,9 @@ fn put_numbers(it: Record, numbers: &mut [f64])
     ensures { λ _. ⌜ now (numbers .exit) ≡ over (flatNumbers it) (now (numbers .entry)) ⌝ }
 {
     let gate = it.gate;
-    let flat = flat_of(gate);
+    let parts = parts_of(gate);
+    let shape = parts.shape;
+    let flat = flat_of(shape);
     let eight = flat.numbers;
     numbers[0] = eight.ct;
     numbers[1] = eight.st;
@@ -183,32 +177,24 @@ fn measure_of(target: u8, outcome: u32, reset: u32) -> Made
 }
 
 fn gate_of(code: u32, target: u8, second: u32, reset: u32, g: Angles) -> Made
-    ensures { λ r. ⌜ r ≡ madeOf (gateOf code target second reset g) ⌝ }
+    ensures { λ r. ⌜ r ≡ madeOf (gateOf (rowOf code) target second reset g) ⌝ }
 {
-    let c = Controls { ones: second };
+    let c = Controls::of(second);
     let angle = Angle {
         cosine: g.ct,
         sine: g.st,
     };
+    let noise = Noise {
+        prob: g.ct,
+        draw: g.st,
+    };
     match code {
-        1 => Made::Gate(Gate::H(target, c)),
-        2 => Made::Gate(Gate::X(target, c)),
-        3 => Made::Gate(Gate::Y(target, c)),
-        4 => Made::Gate(Gate::Z(target, c)),
-        5 => Made::Gate(Gate::P(target, c, angle)),
-        6 => Made::Gate(Gate::Rx(target, c, angle)),
-        7 => Made::Gate(Gate::Ry(target, c, angle)),
-        8 => Made::Gate(Gate::Rz(target, c, angle)),
+        1 | 2 | 3 | 4 => Made::Gate(plain_gate(code, target, c)),
+        5 | 6 | 7 | 8 => Made::Gate(angled_gate(code, target, c, angle)),
         9 => Made::Gate(Gate::U(target, c, g)),
         10 => swap_of(target, second),
         11 => measure_of(target, second, reset),
-        12 => Made::Gate(Gate::BitFlip(
-            target,
-            Noise {
-                prob: g.ct,
-                draw: g.st,
-            },
-        )),
+        12 => Made::Gate(Gate::BitFlip(target, noise)),
         _ => Made::Missing,
     }
 }

@@ -5,26 +5,22 @@ use mathlib.Core.List.{List}
 use lib.Dec.{ltb, eqb}
 use lib.ListN.{length, take, drop, getD}
 use Rattle.book.specs.Kernels.{badSize}
-use Rattle.book.specs.Records.{number, starts}
+use Rattle.book.specs.Records.{number, mostBytes, starts}
 use Rattle.frames.specs.declared.Header.{Header}
 use Rattle.frames.specs.declared.Header.the-variants.{Good, Bad}
 use Rattle.frames.specs.declared.Next.{Next}
 use Rattle.frames.specs.declared.Next.the-variants.{Whole, Over, Cut, End, More}
 
 -- n is 1 to 11 in the program
-abbrev pub mostQubits : ℕ
-mostQubits = 11
+abbrev pub mostInProgram : ℕ
+mostInProgram = 11
 
 -- 21 0005, n (1 byte), session (4)
 abbrev pub headerOf : List ℕ → Header
 headerOf bs =
     cond (starts 0x21 5 bs)
-    (cond (badSize mostQubits (getD bs 3 0)) Bad (Good (getD bs 3 0) (number (take 4 (drop 4 bs)))))
+    (cond (badSize mostInProgram (getD bs 3 0)) Bad (Good (getD bs 3 0) (number (take 4 (drop 4 bs)))))
     Bad
-
--- a record has at most 94 bytes
-abbrev pub mostBytes : ℕ
-mostBytes = 94
 
 -- a frame of which a part is there: more may come, and at the end of the input it is cut short
 abbrev pub unfinished : Bool → Next

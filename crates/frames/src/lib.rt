@@ -4,6 +4,7 @@ ghost use Prim.Native.Nat.{ℕ, _+_, _≤_, _<_};
 ghost use lib.ListN.{length, take, drop};
 ghost use Rattle.book.specs.Records.{number};
 ghost use Rattle.frames.specs.Frames.{headerOf, nextOf, unfinished, sized};
+use book::MOST_BYTES;
 
 // A header gives n and the session, or is bad.
 pub enum Header {
@@ -29,12 +30,9 @@ const HEADER_LENGTH: u64 = 5;
 const HEADER_BYTES: usize = 8;
 
 // n is 1 to 11 in the program.
-const MOST_QUBITS: u8 = 11;
+const MOST_IN_PROGRAM: u8 = 11;
 
 const FRAME: u8 = 0x20;
-
-// A record has at most 94 bytes.
-const MOST_BYTES: u64 = 94;
 
 // The number that two bytes are.
 fn two_at(bytes: &[u8], at: usize) -> u64
@@ -64,7 +62,7 @@ pub fn read_header(bytes: &[u8]) -> Header
     if n < 1 {
         return Header::Bad;
     }
-    if MOST_QUBITS < n {
+    if MOST_IN_PROGRAM < n {
         return Header::Bad;
     }
     let qubits = n as u32;
@@ -84,13 +82,14 @@ fn sized(ended: bool, have: usize, len: u64) -> Next
     requires { ⌜ len < 65536 ⌝ }
     ensures { λ r. ⌜ r ≡ sized ended have len ⌝ }
 {
-    if MOST_BYTES < len {
-        return Next::Over(len as usize);
+    let contents = len as usize;
+    if MOST_BYTES < contents {
+        return Next::Over(contents);
     }
-    if have < 3 + len as usize {
+    if have < 3 + contents {
         return unfinished(ended);
     }
-    Next::Whole(len as usize)
+    Next::Whole(contents)
 }
 
 pub fn next_frame(bytes: &[u8], ended: bool) -> Next

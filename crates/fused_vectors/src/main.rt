@@ -3,13 +3,12 @@
 // A line has 70 bytes: a letter, four words of 16 hex digits with a space before each, and a line feed. `F x y z r` asks that r is F(x,y,z), and
 // `R x r x r` twice that r is the root of x. docs/VECTORS.md says how the list was made. A line that is not so is counted as unread, and so are bytes
 // left over at the end: what is printed shows a short or a spoilt list.
-mod float;
 mod text;
 
-use float::bits;
-use float::number;
 use libc::STDIN_FILENO;
 use libc::STDOUT_FILENO;
+use wire::bits_of;
+use wire::float_of;
 ghost use lib.ListN.{length};
 ghost use Prim.Native.Nat.{_+_, _≤_};
 
@@ -55,8 +54,8 @@ fn show_root(x: u64, wanted: u64, got: u64) {
 }
 
 fn fused_case(x: u64, y: u64, z: u64, answer: u64, t: Tally) -> Tally {
-    let wanted = bits(number(answer));
-    let got = bits(fused::fused(number(x), number(y), number(z)));
+    let wanted = bits_of(float_of(answer));
+    let got = bits_of(fused::fused(float_of(x), float_of(y), float_of(z)));
     let mut after = t;
     after.fused = text::one_more(t.fused);
     if got != wanted {
@@ -69,8 +68,8 @@ fn fused_case(x: u64, y: u64, z: u64, answer: u64, t: Tally) -> Tally {
 }
 
 fn root_case(x: u64, answer: u64, t: Tally) -> Tally {
-    let wanted = bits(number(answer));
-    let got = bits(fused::root(number(x)));
+    let wanted = bits_of(float_of(answer));
+    let got = bits_of(roots::root(float_of(x)));
     let mut after = t;
     after.roots = text::one_more(t.roots);
     if got != wanted {
@@ -82,27 +81,38 @@ fn root_case(x: u64, answer: u64, t: Tally) -> Tally {
     after
 }
 
+fn unread(t: Tally) -> Tally {
+    let mut after = t;
+    after.unread = text::one_more(t.unread);
+    after
+}
+
+// What a line asks, by its letter and its four words.
+fn asked(kind: u8, a: u64, b: u64, c: u64, d: u64, t: Tally) -> Tally {
+    if kind == b'F' {
+        return fused_case(a, b, c, d, t);
+    }
+    if kind == b'R' {
+        return root_case(c, d, root_case(a, b, t));
+    }
+    unread(t)
+}
+
 // The line that starts at `at`.
 fn line(s: &[u8], at: usize, t: Tally) -> Tally
     requires { ⌜ at + 70 ≤ length (now s) ⌝ }
 {
     let kind = s[at];
     let end = s[at + 69];
-    let a = text::read_word(s, at + 1);
-    let b = text::read_word(s, at + 18);
-    let c = text::read_word(s, at + 35);
-    let d = text::read_word(s, at + 52);
-    let whole = a.read && b.read && c.read && d.read && end == b'\n';
-    if whole && kind == b'F' {
-        return fused_case(a.bits, b.bits, c.bits, d.bits, t);
+    let a = text::read_word(s, at + 1, end == b'\n');
+    let b = text::read_word(s, at + 18, a.read);
+    let c = text::read_word(s, at + 35, b.read);
+    let d = text::read_word(s, at + 52, c.read);
+    if d.read {
+        asked(kind, a.bits, b.bits, c.bits, d.bits, t)
+    } else {
+        unread(t)
     }
-    if whole && kind == b'R' {
-        let half = root_case(a.bits, b.bits, t);
-        return root_case(c.bits, d.bits, half);
-    }
-    let mut after = t;
-    after.unread = text::one_more(t.unread);
-    after
 }
 
 // Every whole line of s; a rest counts as one unread.
@@ -127,11 +137,15 @@ fn chunk(t: Tally) -> Tally {
     after
 }
 
+// A count, behind its label.
+fn tell(label: &[u8], n: u64) {
+    io::write_all(STDOUT_FILENO, label);
+    io::print_decimal(STDOUT_FILENO, n);
+}
+
 fn count(name: &[u8], cases: u64, differ: u64) {
-    io::write_all(STDOUT_FILENO, name);
-    io::print_decimal(STDOUT_FILENO, cases);
-    io::write_all(STDOUT_FILENO, b" cases ");
-    io::print_decimal(STDOUT_FILENO, differ);
+    tell(name, cases);
+    tell(b" cases ", differ);
     io::write_all(STDOUT_FILENO, b" differences\n");
 }
 
@@ -157,7 +171,6 @@ fn main() {
     let t = whole_list();
     count(b"F ", t.fused, t.fused_differ);
     count(b"root ", t.roots, t.roots_differ);
-    io::write_all(STDOUT_FILENO, b"unread ");
-    io::print_decimal(STDOUT_FILENO, t.unread);
+    tell(b"unread ", t.unread);
     io::write_all(STDOUT_FILENO, b"\n");
 }

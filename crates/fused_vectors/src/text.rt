@@ -2,7 +2,7 @@
 ghost use lib.ListN.{length};
 ghost use Prim.Native.Nat.{_+_, _≤_};
 
-// A word of 16 hex digits, and whether it was there.
+// A word of 16 hex digits, and whether it and all before it were there.
 pub(crate) struct Word {
     pub(crate) bits: u64,
     pub(crate) read: bool,
@@ -30,10 +30,10 @@ fn digit(b: u8) -> u64 {
 }
 
 // The word behind the space at `at`.
-pub(crate) fn read_word(s: &[u8], at: usize) -> Word
+pub(crate) fn read_word(s: &[u8], at: usize, before: bool) -> Word
     requires { ⌜ at + 17 ≤ length (now s) ⌝ }
 {
-    let read = s[at] == b' ';
+    let read = before & (s[at] == b' ');
     let mut bits: u64 = 0;
     let mut i: usize = 1;
     while i < 17 {

@@ -4,10 +4,10 @@ use book::Answer;
 use book::Controls;
 use book::MOST_QUBITS;
 use book::Refusal;
+use operands::is_finite;
 ghost use mathlib.Core.Path.{_≡_};
 ghost use mathlib.Core.List.{_++_};
 ghost use Prim.Native.Nat.{_≤_};
-ghost use lib.Ieee.Scale.{finite};
 ghost use Rattle.book.specs.Gates.{allFinite, finiteTests};
 ghost use Rattle.book.specs.Kernels.{sizeTests, seatTests};
 ghost use Rattle.book.specs.Lent.{before};
@@ -81,16 +81,8 @@ pub fn free_seat(reals: &[f64], imags: &[f64], n: u32, target: u32) -> Answer
     seat(reals, imags, n, target, Controls::of(0), ANY)
 }
 
-// Neither NaN nor infinite: only then is x - x equal to itself.
-pub fn is_finite(x: f64) -> bool
-    ensures { λ r. ⌜ r ≡ finite x ⌝ }
-{
-    let d = x - x;
-    d == d
-}
-
 // Each number is finite.
-fn all_finite(numbers: &[f64]) -> bool
+pub fn all_finite(numbers: &[f64]) -> bool
     ensures { λ r. ⌜ r ≡ allFinite (now (numbers .entry)) ⌝ }
 {
     let mut i = 0;

@@ -9,7 +9,7 @@ use borrow.Author.Tests.{ltb-false}
 use lib.Dec.{ltb}
 use Rattle.book.proofs.Calls.{refuses, takes}
 use Rattle.book.proofs.Refusals.{neither, right-lengths}
-use Rattle.book.specs.Answers.{numberOf, taken, Test, _⇒_, first, Buffers, Outcome, unless, Does}
+use Rattle.book.specs.Answers.{numberOf, taken, Test, _⇒_, first, Buffers, Call, accepted, unless, Does}
 use Rattle.book.specs.Kernels.{badSize, badLength}
 use Rattle.book.specs.Matrices.{mostMatrix}
 use Rattle.book.specs.declared.Answer.the-variants.{Taken, Refused}
@@ -34,21 +34,25 @@ held-places size b e = let (r, i) = right-lengths size b e in record { reals = l
 abbrev pub tests : ℕ → Bool → List Test → List Test
 tests n long rest = badSize mostMatrix n ⇒ 1 ∷ long ⇒ 2 ∷ rest
 
-module _ (n : ℕ) (long : Bool) (rest : List Test) (b : Buffers) (work : Outcome) where
+module _ (n : ℕ) (long : Bool) (rest : List Test) (b : Buffers) (work : Call) where
   pub wrong-size : badSize mostMatrix n ≡ true → Does (unless (first (tests n long rest)) b work) (Refused Size) b
+  unfolding first
   wrong-size e = let k : first (tests n long rest) ≡ 1 = rw e in refuses Size b work k
 
   module _ (ok : badSize mostMatrix n ≡ false) where
     pub wrong-length : long ≡ true → Does (unless (first (tests n long rest)) b work) (Refused Length) b
+    unfolding first
     wrong-length e = let k : first (tests n long rest) ≡ 2 = rw (ok, e) in refuses Length b work k
 
     module _ (e : long ≡ false) where
       -- 1 and 2 passed: the rest decides
       passed : first (tests n long rest) ≡ first rest
+      unfolding first
       passed = rw (ok, e)
 
       pub wrong-later : (r : Refusal) → first rest ≡ numberOf r → Does (unless (first (tests n long rest)) b work) (Refused r) b
       wrong-later r f = refuses r b work (passed ∙ f)
 
-      pub right : {after : Buffers} → first rest ≡ 0 → taken ≡ work .says → after ≡ work .left → Does (unless (first (tests n long rest)) b work) Taken after
+      pub right : {after : Buffers} → first rest ≡ 0 → taken ≡ accepted (work .answer) → after ≡ work .left
+          → Does (unless (first (tests n long rest)) b work) Taken after
       right f p q = takes b work (passed ∙ f) p q

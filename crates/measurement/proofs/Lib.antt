@@ -1,4 +1,2 @@
--- Sums: the rising sum, a stretch at a time. Turns: stretches of places turned.
-pub mod Sums
-pub mod Turns
-pub mod Measured
+-- Measured: a measurement after its judge.
+mod Measured

@@ -1,2 +1,2 @@
--- The words of the inner functions' contracts.
-pub mod Steps
+-- What follows a measurement that is to be set back.
+pub mod Resets

@@ -36,10 +36,13 @@ fn read_number() -> Number {
     }
 }
 
-// Each place is read, or the input ends before.
-pub(crate) fn fill(into: &mut [f64]) -> bool {
+// So many places are read, or the input ends before, or there are not so many.
+pub(crate) fn fill(into: &mut [f64], count: usize) -> bool {
     let mut i: usize = 0;
-    while i < into.len() {
+    while i < count {
+        if into.len() <= i {
+            return false;
+        }
         let number = read_number();
         if !number.read {
             return false;
@@ -48,12 +51,4 @@ pub(crate) fn fill(into: &mut [f64]) -> bool {
         i += 1;
     }
     true
-}
-
-// Both buffers of a state or a matrix.
-pub(crate) fn fill_both(reals: &mut [f64], imags: &mut [f64]) -> bool {
-    if fill(reals) {
-        return fill(imags);
-    }
-    false
 }

@@ -1,14 +1,15 @@
 -- A product, refused or taken: what its tests showed, and what its loops filled, give the contract. Assumes nothing.
 use Prim.Native.Nat.{ℕ, _*_, _^_, _≤_}
 use mathlib.Core.Bool.{Bool, true, false, _||_}
-use mathlib.Core.List.{[]}
+use mathlib.Core.List.{[], _++_}
+use mathlib.Core.Option.{Option}
 use mathlib.Core.Path.{_≡_, refl}
 use lib.ListN.{length}
 use Rattle.book.proofs.Refusals.{neither, right-lengths}
-use Rattle.book.specs.Answers.{Buffers, Outcome, unless, Does}
+use Rattle.book.specs.Answers.{first, Buffers, Call, call, unless, Does}
 use Rattle.book.specs.Kernels.{badSize, badLength}
 use Rattle.book.specs.Matrices as Book
-use Rattle.book.specs.Matrices.{mostMatrix, entries, heldDense, productRefusal}
+use Rattle.book.specs.Matrices.{mostMatrix, entries, heldDense, productTests}
 use Rattle.book.specs.declared.Answer.the-variants.{Taken, Refused}
 use Rattle.book.specs.declared.Refusal.the-variants.{Size, Length}
 use Rattle.matrices.proofs.Fills.{whole}
@@ -19,16 +20,19 @@ use Rattle.products.specs.Sums.{rowDot, product, stateDot}
 
 -- ---- the refusals of both products
 
-module _ (size n : ℕ) (aa bb b : Buffers) (work : Outcome) where
+module _ (size n : ℕ) (aa bb b : Buffers) (rest : Option ℕ) (left : Buffers) where
+  abbrev work : Call
+  work = call [] rest left
+
   abbrev long : Bool
   long = badLength (entries n) aa || badLength size bb || badLength size b
 
-  pub product-size : badSize mostMatrix n ≡ true → Does (unless (productRefusal size n aa bb b) b work) (Refused Size) b
-  unfolding productRefusal
+  pub product-size : badSize mostMatrix n ≡ true → Does (unless (first (productTests size n aa bb b ++ work .tests)) b work) (Refused Size) b
+  unfolding productTests
   product-size e = wrong-size n long [] b work e
 
-  product-length : badSize mostMatrix n ≡ false → long ≡ true → Does (unless (productRefusal size n aa bb b) b work) (Refused Length) b
-  unfolding productRefusal
+  product-length : badSize mostMatrix n ≡ false → long ≡ true → Does (unless (first (productTests size n aa bb b ++ work .tests)) b work) (Refused Length) b
+  unfolding productTests
   product-length ok e = wrong-length n long [] b work ok e
 
 -- ---- what the loops filled is the work
@@ -40,14 +44,14 @@ out-lengths x y size b e = right-lengths size b (neither (x || y) (badLength siz
 module _ (n : ℕ) (aa bb b b′ : Buffers) (ok : badSize mostMatrix n ≡ false) where
   product-done : (badLength (entries n) aa || badLength (entries n) bb || badLength (entries n) b) ≡ false
       → Filled 0 (entries n) (product (2 ^ n) aa bb) b b′ → Does (Book.product n aa bb b) Taken b′
-  unfolding productRefusal heldDense product rowDot
+  unfolding first productTests heldDense product rowDot
   product-done e w =
       let (r, i) = out-lengths (badLength (entries n) aa) (badLength (entries n) bb) (entries n) b e in
       right n (badLength (entries n) aa || badLength (entries n) bb || badLength (entries n) b) [] b _ ok e refl refl (whole w r i (λ k l. refl))
 
   state-done : (badLength (entries n) aa || badLength (2 ^ n) bb || badLength (2 ^ n) b) ≡ false
       → Filled 0 (2 ^ n) (λ row. stateDot aa (row * 2 ^ n) bb (2 ^ n)) b b′ → Does (Book.productState n aa bb b) Taken b′
-  unfolding productRefusal stateDot
+  unfolding first productTests stateDot
   state-done e w =
       let (r, i) = out-lengths (badLength (entries n) aa) (badLength (2 ^ n) bb) (2 ^ n) b e in
       right n (badLength (entries n) aa || badLength (2 ^ n) bb || badLength (2 ^ n) b) [] b _ ok e refl refl (whole w r i (λ k l. refl))
@@ -60,7 +64,7 @@ module _ (n : ℕ) (aa bb b : Buffers) (ok : badSize mostMatrix n ≡ false) whe
 
   pub product-long : (badLength (shifted n * shifted n) aa || badLength (shifted n * shifted n) bb || badLength (shifted n * shifted n) b) ≡ true
       → Does (Book.product n aa bb b) (Refused Length) b
-  product-long e = product-length _ n aa bb b _ ok (rw is at e)
+  product-long e = product-length _ n aa bb b _ _ ok (rw is at e)
 
   pub product-filled : (b′ : Buffers) → (badLength (shifted n * shifted n) aa || badLength (shifted n * shifted n) bb || badLength (shifted n * shifted n) b) ≡ false
       → Filled 0 (shifted n * shifted n) (product (shifted n) aa bb) b b′ → Does (Book.product n aa bb b) Taken b′
@@ -68,7 +72,7 @@ module _ (n : ℕ) (aa bb b : Buffers) (ok : badSize mostMatrix n ≡ false) whe
 
   pub state-long : (badLength (shifted n * shifted n) aa || badLength (shifted n) bb || badLength (shifted n) b) ≡ true
       → Does (Book.productState n aa bb b) (Refused Length) b
-  state-long e = product-length _ n aa bb b _ ok (rw is at e)
+  state-long e = product-length _ n aa bb b _ _ ok (rw is at e)
 
   pub state-filled : (b′ : Buffers) → (badLength (shifted n * shifted n) aa || badLength (shifted n) bb || badLength (shifted n) b) ≡ false
       → Filled 0 (shifted n) (λ row. stateDot aa (row * shifted n) bb (shifted n)) b b′ → Does (Book.productState n aa bb b) Taken b′

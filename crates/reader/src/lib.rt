@@ -4,28 +4,28 @@ ghost use Rattle.book.specs.Records.{readOf, readRecord};
 use book::Read;
 use book::Record;
 use book::Refusal;
-use codes::Made;
 use codes::read_gate;
 use fields::Field;
 use fields::number_field;
+use shapes::Made;
 
 // Fields 01 to 04, and then by code.
 pub fn read_record(bytes: &[u8]) -> Read
     ensures { λ r. ⌜ r ≡ readOf (readRecord (now (bytes .entry))) ⌝ }
 {
-    let Field::Number(session) = number_field(bytes, 0, 0x01, 4) else {
+    let Field::Number(session, at_number) = number_field(bytes, 0, 0x01, 4) else {
         return Read::Refused(Refusal::Record);
     };
-    let Field::Number(number) = number_field(bytes, 7, 0x02, 2) else {
+    let Field::Number(number, at_code) = number_field(bytes, at_number, 0x02, 2) else {
         return Read::Refused(Refusal::Record);
     };
-    let Field::Number(code) = number_field(bytes, 12, 0x03, 1) else {
+    let Field::Number(code, at_target) = number_field(bytes, at_code, 0x03, 1) else {
         return Read::Refused(Refusal::Record);
     };
-    let Field::Number(target) = number_field(bytes, 16, 0x04, 1) else {
+    let Field::Number(target, behind) = number_field(bytes, at_target, 0x04, 1) else {
         return Read::Refused(Refusal::Record);
     };
-    let Made::Gate(gate) = read_gate(bytes, code, target as u8) else {
+    let Made::Gate(gate) = read_gate(bytes, behind, code as u32, target as u8) else {
         return Read::Refused(Refusal::Record);
     };
     Read::Record(Record {

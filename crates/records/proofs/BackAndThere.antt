@@ -9,8 +9,9 @@ use mathlib.Core.Option.{Option, some, none}
 use lib.Ieee.{Float}
 use lib.ListN.{length, getD}
 use Rattle.book.specs.Gates.{angleOf, anglesOf, noiseOf}
-use Rattle.book.specs.Records.{bytes, number, floats, field, maskField, codeOf, targetOf, fieldsOf, listed, last, readAngle}
-use Rattle.book.specs.Records.{readAngles, readNoise, readForced, plain, readGate, made, writeRecord}
+use Rattle.book.specs.Records.{bytes, number, floats, field, maskField, partsOf, fieldsOf, listed, last, readAngle}
+use Rattle.book.specs.Records.{readAngles, readNoise, readForced, plain, rowOf, readRow, recordWith, writeRecord}
+use Rattle.book.specs.State.{controlled}
 use Rattle.book.specs.declared.Controls.{Controls}
 use Rattle.book.specs.declared.Gate.{Gate}
 use Rattle.book.specs.declared.Gate.the-variants.{H, X, Y, Z, P, Rx, Ry, Rz, U, Swap, Measure, BitFlip}
@@ -53,11 +54,11 @@ last-field tag len bs f a h e =
 
 -- the mask, and what stands behind it
 masked-is : {A : Type 0} (bs : List ℕ) (go : Controls → List ℕ → Option A) (a : A) → Bytes bs
-    → listed 0x05 4 bs (λ m rest. go (record { ones = number m }) rest) ≡ some a
+    → listed 0x05 4 bs (λ m rest. go (controlled (number m)) rest) ≡ some a
     → (c : Controls) × (rest : List ℕ) × (bs ≡ maskField c ++ rest) × Bytes rest × (go c rest ≡ some a)
 masked-is bs go a h e =
-    let (m, rest, w, q) = listed-is 0x05 4 bs (λ m rest. go (record { ones = number m }) rest) a h e in (
-      record { ones = number m },
+    let (m, rest, w, q) = listed-is 0x05 4 bs (λ m rest. go (controlled (number m)) rest) a h e in (
+      controlled (number m),
       rest,
       w .whole ∙ ap (λ (l : List ℕ). field 0x05 l ++ rest) (sym (bytes-back 4 m (w .within) (w .size))),
       w .after,
@@ -66,17 +67,17 @@ masked-is bs go a h e =
 
 -- ---- the shapes
 
--- what a gate with this code and target is written as
+-- a gate has these parts, and they are written as these bytes
 record Spells (code t : ℕ) (bs : List ℕ) (g : Gate) : Type 0 where
-  code-is : codeOf g ≡ code
-  target-is : targetOf g ≡ t
-  fields-are : fieldsOf g ≡ bs
+  code-is : partsOf g .code ≡ code
+  target-is : partsOf g .target ≡ t
+  fields-are : fieldsOf (partsOf g .shape) ≡ bs
 
 module _ (bs : List ℕ) (g : Gate) (h : Bytes bs) where
-  plain-there : (f : Controls → Gate) → plain f bs ≡ some g → (c : Controls) × (f c ≡ g) × (maskField c ≡ bs)
-  plain-there f e =
-      let w = last-field 0x05 4 bs (λ m. f (record { ones = number m })) g h e in
-      (record { ones = number (w .contents) }, w .gives, ap (field 0x05) (bytes-back 4 (w .contents) (w .within) (w .size)) ∙ w .whole)
+  plain-there : (t : ℕ) (f : ℕ → Controls → Gate) → readRow (plain f) t bs ≡ some g → (c : Controls) × (f t c ≡ g) × (maskField c ≡ bs)
+  plain-there t f e =
+      let w = last-field 0x05 4 bs (λ m. f t (controlled (number m))) g h e in
+      (controlled (number (w .contents)), w .gives, ap (field 0x05) (bytes-back 4 (w .contents) (w .within) (w .size)) ∙ w .whole)
 
   -- the mask, and a field of floats, by how they are read and listed
   module _ {A : Type 0} (tag k : ℕ) (of : List ℕ → A) (all : A → List Float)
@@ -88,7 +89,7 @@ module _ (bs : List ℕ) (g : Gate) (h : Bytes bs) where
         (of (w .contents), w .gives, λ ok. ap (field tag) (there (w .contents) (w .within) (w .size) ok) ∙ w .whole)
 
     masked-there : (f : Controls → A → Gate)
-        → listed 0x05 4 bs (λ m rest. listed tag (8 * k) rest λ x rest′. last rest′ (f (record { ones = number m }) (of x))) ≡ some g
+        → listed 0x05 4 bs (λ m rest. listed tag (8 * k) rest λ x rest′. last rest′ (f (controlled (number m)) (of x))) ≡ some g
         → (c : Controls) × (a : A) × (f c a ≡ g) × (Each NotNan (all a) → maskField c ++ field tag (floats (all a)) ≡ bs)
     masked-there f e =
         let (c, rest, whole, after, q) = masked-is bs (λ c rest. listed tag (8 * k) rest λ x rest′. last rest′ (f c (of x))) g h e in
@@ -112,17 +113,20 @@ angles-there c h e ok = floats-there 8 c 0 h e ok
 
 -- ---- by code
 
-module _ (t : ℕ) (bs : List ℕ) (g : Gate) (h : Bytes bs) (ok : Each NotNan (floatsOf g)) where
-  spells : (code : ℕ) (f : Gate) → f ≡ g → codeOf f ≡ code → targetOf f ≡ t → (Each NotNan (floatsOf f) → fieldsOf f ≡ bs) → Spells code t bs g
+module _ (t : ℕ) (bs : List ℕ) (g : Gate) (h : Bytes bs) (ok : Each NotNan (floatsOf (partsOf g .shape))) where
+  -- the gate that was made of a row has the row's code
+  spells : (code : ℕ) (f : Gate) → f ≡ g → partsOf f .code ≡ code → partsOf f .target ≡ t
+      → (Each NotNan (floatsOf (partsOf f .shape)) → fieldsOf (partsOf f .shape) ≡ bs) → Spells code t bs g
   spells code f e c t′ w =
-      subst (Spells code t bs) e (record { code-is = c; target-is = t′; fields-are = w (subst (λ (x : Gate). Each NotNan (floatsOf x)) (sym e) ok) })
+      let fine = subst (λ (x : Gate). Each NotNan (floatsOf (partsOf x .shape))) (sym e) ok in
+      subst (Spells code t bs) e (record { code-is = c; target-is = t′; fields-are = w fine })
 
-  gate-there : (code : ℕ) → readGate code t bs ≡ some g → Spells code t bs g
+  gate-there : (code : ℕ) → readRow (rowOf code) t bs ≡ some g → Spells code t bs g
   gate-there zero e = absurd (no-answer e)
-  gate-there (suc zero) e = let (c, p, w) = plain-there bs g h (H t) e in spells 1 (H t c) p refl refl (λ o. w)
-  gate-there (suc (suc zero)) e = let (c, p, w) = plain-there bs g h (X t) e in spells 2 (X t c) p refl refl (λ o. w)
-  gate-there (suc (suc (suc zero))) e = let (c, p, w) = plain-there bs g h (Y t) e in spells 3 (Y t c) p refl refl (λ o. w)
-  gate-there (suc (suc (suc (suc zero)))) e = let (c, p, w) = plain-there bs g h (Z t) e in spells 4 (Z t c) p refl refl (λ o. w)
+  gate-there (suc zero) e = let (c, p, w) = plain-there bs g h t H e in spells 1 (H t c) p refl refl (λ o. w)
+  gate-there (suc (suc zero)) e = let (c, p, w) = plain-there bs g h t X e in spells 2 (X t c) p refl refl (λ o. w)
+  gate-there (suc (suc (suc zero))) e = let (c, p, w) = plain-there bs g h t Y e in spells 3 (Y t c) p refl refl (λ o. w)
+  gate-there (suc (suc (suc (suc zero)))) e = let (c, p, w) = plain-there bs g h t Z e in spells 4 (Z t c) p refl refl (λ o. w)
   gate-there (suc (suc (suc (suc (suc zero))))) e =
       let (c, a, p, w) = masked-there bs g h 0x07 2 readAngle angleOf angle-there (P t) e in
       spells 5 (P t c a) p refl refl w
@@ -158,7 +162,7 @@ record Made (session k : ℕ) (o : Option Gate) (r : Record) : Type 0 where
   session-is : r .session ≡ session
   number-is : r .number ≡ k
 
-made-is : (session k : ℕ) (o : Option Gate) (r : Record) → made session k o ≡ some r → Made session k o r
+made-is : (session k : ℕ) (o : Option Gate) (r : Record) → recordWith session k o ≡ some r → Made session k o r
 made-is session k (some g) r e =
     let here : Record = record { session = session; number = k; gate = g } in
     let p : r ≡ here = cc e in
@@ -206,7 +210,7 @@ writes-back bs r h e ok =
     let (k, r₂, w₂, h₂, e₂) = number-is 0x02 2 r₁ (after2 s) r h₁ e₁ in
     let (code, r₃, w₃, h₃, e₃) = number-is 0x03 1 r₂ (after3 s k) r h₂ e₂ in
     let (t, r₄, w₄, h₄, e₄) = number-is 0x04 1 r₃ (after4 s k code) r h₃ e₃ in
-    let m = made-is s k (readGate code t r₄) r e₄ in
+    let m = made-is s k (readRow (rowOf code) t r₄) r e₄ in
     same-record r s k code t r₄ bs (m .session-is) (m .number-is)
     (gate-there t r₄ (r .gate) h₄ ok code (m .gate))
     (four s k code t r₁ r₂ r₃ r₄ bs w₁ w₂ w₃ w₄)

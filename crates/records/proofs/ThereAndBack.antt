@@ -4,17 +4,19 @@ use native.Mathlib.Nat.{div-one}
 use native.Mathlib.Omega.{arith}
 use mathlib.Core.Path.{_≡_, ap, _∙_}
 use mathlib.Core.List.{List, [], _++_}
-use mathlib.Core.Option.{some}
+use mathlib.Core.Option.{Option, some}
 use Rattle.book.specs.Gates.{angleOf, anglesOf, noiseOf}
-use Rattle.book.specs.Records.{bytes, floats, field, maskField, angleField, codeOf, targetOf, fieldsOf, readAngle, readAngles}
-use Rattle.book.specs.Records.{readNoise, plain, angled, eight, second, forced, noisy, readGate, made, readRecord}
+use Rattle.book.specs.Records.{bytes, floats, field, partsOf, fieldsOf, readAngle, readAngles, readNoise}
+use Rattle.book.specs.Records.{plain, angled, eight, second, forced, noisy, rowOf, readRow, recordWith, readRecord}
 use Rattle.book.specs.declared.Angle.{Angle}
 use Rattle.book.specs.declared.Angles.{Angles}
 use Rattle.book.specs.declared.Controls.{Controls}
-use Rattle.book.specs.declared.Forced.{Forced}
+use Rattle.book.specs.declared.Forced.{Forced as ForcedBy}
 use Rattle.book.specs.declared.Gate.{Gate}
 use Rattle.book.specs.declared.Gate.the-variants.{H, X, Y, Z, P, Rx, Ry, Rz, U, Swap, Measure, BitFlip}
 use Rattle.book.specs.declared.Noise.{Noise}
+use Rattle.book.specs.declared.Parts.{Parts}
+use Rattle.book.specs.declared.Shape.the-variants.{Plain, Angled, Eight, Second, Forced, Noisy}
 use Rattle.wire.specs.Bytes.{Each, IsF64}
 use Rattle.wire.proofs.Fields.{listed-field}
 use Rattle.wire.proofs.Floats.{float-back}
@@ -50,20 +52,20 @@ angles-back g h =
 
 -- ---- the shapes
 
-module _ (c : Controls) (h : c .ones < 2 ^ 32) where
-  plain-back : (g : Controls → Gate) → plain g (maskField c) ≡ some (g c)
+module _ (t : ℕ) (c : Controls) (h : c .ones < 2 ^ 32) where
+  plain-back : (g : ℕ → Controls → Gate) → readRow (plain g) t (fieldsOf (Plain c)) ≡ some (g t c)
   plain-back g = rw (listed-field 0x05 (bytes 4 (c .ones)) [], number-bytes 4 (c .ones) h)
 
-  angled-back : (g : Controls → Angle → Gate) (a : Angle) → Each IsF64 (angleOf a) → angled g (maskField c ++ angleField a) ≡ some (g c a)
+  angled-back : (g : ℕ → Controls → Angle → Gate) (a : Angle) → Each IsF64 (angleOf a) → readRow (angled g) t (fieldsOf (Angled c a)) ≡ some (g t c a)
   angled-back g a f =
       rw (
-        listed-field 0x05 (bytes 4 (c .ones)) (angleField a),
+        listed-field 0x05 (bytes 4 (c .ones)) (field 0x07 (floats (angleOf a))),
         listed-field 0x07 (floats (angleOf a)) [],
         number-bytes 4 (c .ones) h,
         angle-back a f,
       )
 
-  eight-back : (g : Controls → Angles → Gate) (a : Angles) → Each IsF64 (anglesOf a) → eight g (maskField c ++ field 0x08 (floats (anglesOf a))) ≡ some (g c a)
+  eight-back : (g : ℕ → Controls → Angles → Gate) (a : Angles) → Each IsF64 (anglesOf a) → readRow (eight g) t (fieldsOf (Eight c a)) ≡ some (g t c a)
   eight-back g a f =
       rw (
         listed-field 0x05 (bytes 4 (c .ones)) (field 0x08 (floats (anglesOf a))),
@@ -72,30 +74,35 @@ module _ (c : Controls) (h : c .ones < 2 ^ 32) where
         angles-back a f,
       )
 
-second-back : (g : ℕ → Gate) (u : ℕ) → u < 256 → second g (field 0x06 (bytes 1 u)) ≡ some (g u)
-second-back g u h = rw (listed-field 0x06 (bytes 1 u) [], number-bytes 1 u h)
+module _ (t : ℕ) where
+  second-back : (g : ℕ → ℕ → Gate) (u : ℕ) → u < 256 → readRow (second g) t (fieldsOf (Second u)) ≡ some (g t u)
+  second-back g u h = rw (listed-field 0x06 (bytes 1 u) [], number-bytes 1 u h)
 
-forced-back : (g : Forced → Gate) (f : Forced) → forced g (field 0x09 (bytes 1 (f .outcome) ++ bytes 1 (f .reset))) ≡ some (g f)
-forced-back g f = rw (listed-field 0x09 (bytes 1 (f .outcome) ++ bytes 1 (f .reset)) [], div-one (f .outcome), div-one (f .reset))
+  forced-back : (g : ℕ → ForcedBy → Gate) (f : ForcedBy) → readRow (forced g) t (fieldsOf (Forced f)) ≡ some (g t f)
+  forced-back g f = rw (listed-field 0x09 (bytes 1 (f .outcome) ++ bytes 1 (f .reset)) [], div-one (f .outcome), div-one (f .reset))
 
-noisy-back : (g : Noise → Gate) (n : Noise) → Each IsF64 (noiseOf n) → noisy g (field 0x0A (floats (noiseOf n))) ≡ some (g n)
-noisy-back g n f = rw (listed-field 0x0A (floats (noiseOf n)) [], noise-back n f)
+  noisy-back : (g : ℕ → Noise → Gate) (n : Noise) → Each IsF64 (noiseOf n) → readRow (noisy g) t (fieldsOf (Noisy n)) ≡ some (g t n)
+  noisy-back g n f = rw (listed-field 0x0A (floats (noiseOf n)) [], noise-back n f)
 
-gate-back : (g : Gate) → OwnFits g → Each IsF64 (floatsOf g) → readGate (codeOf g) (targetOf g) (fieldsOf g) ≡ some g
-gate-back (H t c) h f = plain-back c h (H t)
-gate-back (X t c) h f = plain-back c h (X t)
-gate-back (Y t c) h f = plain-back c h (Y t)
-gate-back (Z t c) h f = plain-back c h (Z t)
-gate-back (P t c a) h f = angled-back c h (P t) a f
-gate-back (Rx t c a) h f = angled-back c h (Rx t) a f
-gate-back (Ry t c a) h f = angled-back c h (Ry t) a f
-gate-back (Rz t c a) h f = angled-back c h (Rz t) a f
-gate-back (U t c g) h f = eight-back c h (U t) g f
-gate-back (Swap t u) h f = second-back (Swap t) u h
-gate-back (Measure t x) h f = forced-back (Measure t) x
-gate-back (BitFlip t n) h f = noisy-back (BitFlip t) n f
+-- a gate in parts comes back from its row
+abbrev readParts : Parts → Option Gate
+readParts p = readRow (rowOf (p .code)) (p .target) (fieldsOf (p .shape))
 
-code-lt : (g : Gate) → codeOf g < 256
+gate-back : (g : Gate) → OwnFits (partsOf g .shape) → Each IsF64 (floatsOf (partsOf g .shape)) → readParts (partsOf g) ≡ some g
+gate-back (H t c) h f = plain-back t c h H
+gate-back (X t c) h f = plain-back t c h X
+gate-back (Y t c) h f = plain-back t c h Y
+gate-back (Z t c) h f = plain-back t c h Z
+gate-back (P t c a) h f = angled-back t c h P a f
+gate-back (Rx t c a) h f = angled-back t c h Rx a f
+gate-back (Ry t c a) h f = angled-back t c h Ry a f
+gate-back (Rz t c a) h f = angled-back t c h Rz a f
+gate-back (U t c g) h f = eight-back t c h U g f
+gate-back (Swap t u) h f = second-back t Swap u h
+gate-back (Measure t x) h f = forced-back t Measure x
+gate-back (BitFlip t n) h f = noisy-back t BitFlip n f
+
+code-lt : (g : Gate) → partsOf g .code < 256
 code-lt (H t c) = omega arith
 code-lt (X t c) = omega arith
 code-lt (Y t c) = omega arith
@@ -113,7 +120,7 @@ code-lt (BitFlip t n) = omega arith
 
 head-back : (s n code t : ℕ) (rest : List ℕ) → s < 2 ^ 32 → n < 2 ^ 16 → code < 256 → t < 256
     → readRecord (field 0x01 (bytes 4 s) ++ field 0x02 (bytes 2 n) ++ field 0x03 (bytes 1 code) ++ field 0x04 (bytes 1 t) ++ rest)
-    ≡ made s n (readGate code t rest)
+    ≡ recordWith s n (readRow (rowOf code) t rest)
 head-back s n code t rest hs hn hc ht =
     rw (
       listed-field 0x01 (bytes 4 s) (field 0x02 (bytes 2 n) ++ field 0x03 (bytes 1 code) ++ field 0x04 (bytes 1 t) ++ rest),
@@ -128,6 +135,6 @@ head-back s n code t rest hs hn hc ht =
 
 pub reads-back : ReadsBack
 reads-back r h =
-    let g = r .gate in
-    head-back (r .session) (r .number) (codeOf g) (targetOf g) (fieldsOf g) (h .session) (h .number) (code-lt g) (h .target)
-    ∙ ap (made (r .session) (r .number)) (gate-back g (h .own) (h .floats))
+    let p = partsOf (r .gate) in
+    head-back (r .session) (r .number) (p .code) (p .target) (fieldsOf (p .shape)) (h .session) (h .number) (code-lt (r .gate)) (h .target)
+    ∙ ap (recordWith (r .session) (r .number)) (gate-back (r .gate) (h .own) (h .floats))

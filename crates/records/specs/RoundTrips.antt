@@ -7,57 +7,46 @@ use mathlib.Core.Path.{_≡_}
 use lib.Ieee.{Float}
 use lib.ListN.{length}
 use Rattle.book.specs.Gates.{angleOf, anglesOf, noiseOf}
-use Rattle.book.specs.Records.{targetOf, writeRecord, wroteOf, leftBy, readRecord, readOf}
+use Rattle.book.specs.Records.{partsOf, writeRecord, mostBytes, wroteOf, leftBy, readRecord, readOf}
 use Rattle.book.specs.declared.Angles.{Angles}
 use Rattle.book.specs.declared.Controls.{Controls}
-use Rattle.book.specs.declared.Gate.{Gate}
-use Rattle.book.specs.declared.Gate.the-variants.{H, X, Y, Z, P, Rx, Ry, Rz, U, Swap, Measure, BitFlip}
+use Rattle.book.specs.declared.Gate.the-variants.{U}
 use Rattle.book.specs.declared.Read.{Read}
 use Rattle.book.specs.declared.Record.{Record}
+use Rattle.book.specs.declared.Shape.{Shape}
+use Rattle.book.specs.declared.Shape.the-variants.{Plain, Angled, Eight, Second, Forced, Noisy}
 use Rattle.book.specs.declared.Written.{Written}
 use Rattle.wire.specs.Bytes.{Bytes, Each, IsF64, NotNan}
 
 -- ---- the records that a Record holds: each number fits its type
 
--- a gate's numbers beside its target: the mask, the second qubit, or outcome and reset
-abbrev pub OwnFits : Gate → Type 0
-OwnFits (H t c) = c .ones < 2 ^ 32
-OwnFits (X t c) = c .ones < 2 ^ 32
-OwnFits (Y t c) = c .ones < 2 ^ 32
-OwnFits (Z t c) = c .ones < 2 ^ 32
-OwnFits (P t c a) = c .ones < 2 ^ 32
-OwnFits (Rx t c a) = c .ones < 2 ^ 32
-OwnFits (Ry t c a) = c .ones < 2 ^ 32
-OwnFits (Rz t c a) = c .ones < 2 ^ 32
-OwnFits (U t c g) = c .ones < 2 ^ 32
-OwnFits (Swap t u) = u < 256
-OwnFits (Measure t f) = (f .outcome < 256) × (f .reset < 256)
-OwnFits (BitFlip t n) = Unit
+-- what stands behind field 04: the mask, the second qubit, or outcome and reset
+abbrev pub OwnFits : Shape → Type 0
+OwnFits (Plain c) = c .ones < 2 ^ 32
+OwnFits (Angled c a) = c .ones < 2 ^ 32
+OwnFits (Eight c g) = c .ones < 2 ^ 32
+OwnFits (Second u) = u < 256
+OwnFits (Forced f) = (f .outcome < 256) × (f .reset < 256)
+OwnFits (Noisy n) = Unit
 
 -- the floats that a gate is fed
-abbrev pub floatsOf : Gate → List Float
-floatsOf (H t c) = []
-floatsOf (X t c) = []
-floatsOf (Y t c) = []
-floatsOf (Z t c) = []
-floatsOf (P t c a) = angleOf a
-floatsOf (Rx t c a) = angleOf a
-floatsOf (Ry t c a) = angleOf a
-floatsOf (Rz t c a) = angleOf a
-floatsOf (U t c g) = anglesOf g
-floatsOf (Swap t u) = []
-floatsOf (Measure t f) = []
-floatsOf (BitFlip t n) = noiseOf n
+abbrev pub floatsOf : Shape → List Float
+floatsOf (Plain c) = []
+floatsOf (Angled c a) = angleOf a
+floatsOf (Eight c g) = anglesOf g
+floatsOf (Second u) = []
+floatsOf (Forced f) = []
+floatsOf (Noisy n) = noiseOf n
 
 pub record Held (r : Record) : Type 0 where
   pub session : r .session < 2 ^ 32
   pub number : r .number < 2 ^ 16
-  pub target : targetOf (r .gate) < 256
-  pub own : OwnFits (r .gate)
-  pub floats : Each IsF64 (floatsOf (r .gate))
+  pub target : partsOf (r .gate) .target < 256
+  pub own : OwnFits (partsOf (r .gate) .shape)
+  pub floats : Each IsF64 (floatsOf (partsOf (r .gate) .shape))
 
 abbrev pub NoNan : Record → Type 0
-NoNan r = Each NotNan (floatsOf (r .gate))
+NoNan r = Each NotNan (floatsOf (partsOf (r .gate) .shape))
 
 -- ---- round trips
 
@@ -75,16 +64,13 @@ OneSpelling = (bs cs : List ℕ) (r : Record) → Bytes bs → Bytes cs → read
 
 -- ---- sizes
 
-abbrev pub most : ℕ
-most = 94
+-- a record has at most so many bytes as 01 says
+abbrev pub AtMost : Type 0
+AtMost = (r : Record) → length (writeRecord r) ≤ mostBytes
 
--- a record has at most 94 bytes
-abbrev pub AtMost94 : Type 0
-AtMost94 = (r : Record) → length (writeRecord r) ≤ most
-
--- and a U has 94
-abbrev pub UHas94 : Type 0
-UHas94 = (s k t : ℕ) (c : Controls) (g : Angles) → length (writeRecord (record { session = s; number = k; gate = U t c g })) ≡ most
+-- and a U has as many
+abbrev pub UHasMost : Type 0
+UHasMost = (s k t : ℕ) (c : Controls) (g : Angles) → length (writeRecord (record { session = s; number = k; gate = U t c g })) ≡ mostBytes
 
 -- ---- the contracts leave nothing open
 

@@ -1,18 +1,13 @@
 // Lines of hex digits, byte by byte.
 use crate::tell::tell;
-use crate::text::flush;
 
 // No first digit is waiting for its second.
 pub const NONE: u8 = 16;
 
-// The output is written out when it is fuller than this; a line of it is much shorter than what is left.
-const FULL: usize = 60000;
-
-// How many bytes the line has, its first digit that waits, and where the output ends.
+// How many bytes the line has, and its first digit that waits.
 pub struct Cursor {
     pub len: usize,
     pub high: u8,
-    pub at: usize,
 }
 
 fn value(digit: u8) -> u8 {
@@ -22,16 +17,10 @@ fn value(digit: u8) -> u8 {
     (digit - b'a' + 10) % 16
 }
 
-fn tell_line(line: &[u8], len: usize, out: &mut [u8], at: usize) -> usize {
-    if line.len() < len {
-        return at;
+fn tell_line(line: &[u8], len: usize) {
+    if len <= line.len() {
+        tell(&line[0..len]);
     }
-    let next = tell(out, at, &line[..len]);
-    if next < FULL {
-        return next;
-    }
-    flush(out, next);
-    0
 }
 
 fn take_digit(digit: u8, cursor: Cursor, line: &mut [u8]) -> Cursor {
@@ -41,7 +30,6 @@ fn take_digit(digit: u8, cursor: Cursor, line: &mut [u8]) -> Cursor {
         return Cursor {
             len,
             high: value(digit),
-            at: cursor.at,
         };
     }
     if line.len() <= len {
@@ -51,28 +39,23 @@ fn take_digit(digit: u8, cursor: Cursor, line: &mut [u8]) -> Cursor {
     Cursor {
         len: len + 1,
         high: NONE,
-        at: cursor.at,
     }
 }
 
-fn take_byte(byte: u8, cursor: Cursor, line: &mut [u8], out: &mut [u8]) -> Cursor {
+fn take_byte(byte: u8, cursor: Cursor, line: &mut [u8]) -> Cursor {
     if byte == b'\n' {
-        let at = tell_line(line, cursor.len, out, cursor.at);
-        return Cursor {
-            len: 0,
-            high: NONE,
-            at,
-        };
+        tell_line(line, cursor.len);
+        return Cursor { len: 0, high: NONE };
     }
     take_digit(byte, cursor, line)
 }
 
-pub fn take_chunk(chunk: &[u8], cursor: Cursor, line: &mut [u8], out: &mut [u8]) -> Cursor {
+pub fn take_chunk(chunk: &[u8], cursor: Cursor, line: &mut [u8]) -> Cursor {
     let mut next = cursor;
     let mut i: usize = 0;
     while i < chunk.len() {
         let byte = chunk[i];
-        next = take_byte(byte, next, line, out);
+        next = take_byte(byte, next, line);
         i += 1;
     }
     next

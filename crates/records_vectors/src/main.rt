@@ -9,7 +9,6 @@ mod text;
 use lines::Cursor;
 use lines::NONE;
 use lines::take_chunk;
-use text::flush;
 
 // The turns that are left: none behind the end of the input.
 fn left(turns: u64, n: usize) -> u64
@@ -20,24 +19,18 @@ fn left(turns: u64, n: usize) -> u64
 }
 
 // Nothing says that an input ends: the turns are counted down from a number that no run uses up.
-fn run(chunk: &mut [u8], line: &mut [u8], out: &mut [u8]) {
-    let mut cursor = Cursor {
-        len: 0,
-        high: NONE,
-        at: 0,
-    };
+fn run(chunk: &mut [u8], line: &mut [u8]) {
+    let mut cursor = Cursor { len: 0, high: NONE };
     let mut turns = u64::MAX;
     while 0 < turns {
         let n = io::read_full(libc::STDIN_FILENO, chunk);
-        cursor = take_chunk(&chunk[..n], cursor, line, out);
+        cursor = take_chunk(&chunk[..n], cursor, line);
         turns = left(turns, n);
     }
-    flush(out, cursor.at);
 }
 
 fn main() {
     let mut chunk = io::large_buffer();
     let mut line = [0u8; 128];
-    let mut out = io::large_buffer();
-    run(&mut chunk, &mut line, &mut out);
+    run(&mut chunk, &mut line);
 }

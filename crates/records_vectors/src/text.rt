@@ -1,75 +1,39 @@
-// Text put behind a place of a buffer. Each answers the place behind it; what finds no room is left out.
+// Text to standard output, piece by piece: the lines are few, and a buffer would go through every function that tells.
 use libc::STDOUT_FILENO;
 
-pub fn add(out: &mut [u8], at: usize, byte: u8) -> usize {
-    if at < out.len() {
-        out[at] = byte;
-        return at + 1;
-    }
-    at
-}
-
-pub fn append(out: &mut [u8], at: usize, text: &[u8]) -> usize {
-    let mut next = at;
-    let mut i: usize = 0;
-    while i < text.len() {
-        let byte = text[i];
-        next = add(out, next, byte);
-        i += 1;
-    }
-    next
+pub fn text(bytes: &[u8]) {
+    io::write_all(STDOUT_FILENO, bytes);
 }
 
 // A blank and a number.
-pub fn number(out: &mut [u8], at: usize, n: u64) -> usize {
-    let mut digits = [0u8; 20];
-    let k = io::decimal(n, &mut digits);
-    let next = add(out, at, b' ');
-    append(out, next, &digits[..k])
+pub fn number(n: u64) {
+    text(b" ");
+    io::print_decimal(STDOUT_FILENO, n);
 }
 
 // A blank and the bits of an f64.
-fn bits(out: &mut [u8], at: usize, x: f64) -> usize {
-    let mut digits = [0u8; 16];
-    let k = io::hex(wire::bits_of(x), 16, &mut digits);
-    let next = add(out, at, b' ');
-    append(out, next, &digits[..k])
+fn bits(x: f64) {
+    text(b" ");
+    io::print_hex(STDOUT_FILENO, wire::bits_of(x), 16);
 }
 
-pub fn floats(out: &mut [u8], at: usize, numbers: &[f64]) -> usize {
-    let mut next = at;
+pub fn floats(numbers: &[f64]) {
     let mut i: usize = 0;
     while i < numbers.len() {
-        let x = numbers[i];
-        next = bits(out, next, x);
+        bits(numbers[i]);
         i += 1;
     }
-    next
 }
 
-// The lower-case hex digit of a number below 16.
-fn digit(n: u8) -> u8 {
-    if n < 10 {
-        return b'0' + n;
-    }
-    b'a' + (n - 10) % 6
+fn byte_digits(byte: u8) {
+    io::print_hex(STDOUT_FILENO, byte as u64, 2);
 }
 
 // Bytes as hex digits, two for each.
-pub fn hex(out: &mut [u8], at: usize, bytes: &[u8]) -> usize {
-    let mut next = at;
+pub fn hex(bytes: &[u8]) {
     let mut i: usize = 0;
     while i < bytes.len() {
-        let byte = bytes[i];
-        next = add(out, next, digit(byte / 16));
-        next = add(out, next, digit(byte % 16));
+        byte_digits(bytes[i]);
         i += 1;
-    }
-    next
-}
-
-pub fn flush(out: &[u8], at: usize) {
-    if at <= out.len() {
-        io::write_all(STDOUT_FILENO, &out[..at]);
     }
 }

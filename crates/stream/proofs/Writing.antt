@@ -11,7 +11,9 @@ use lib.ListN.{length, drop, getD, set, length-append, drop-of-length-le}
 use lib.Seq.{sets, length-sets, sets-eq, drop-cons, length-take-le}
 use borrow.Author.Tests.{lt-ltb, le-ltb}
 use Rattle.io.specs.Digits.{glyph, digits, Fewest}
-use Rattle.stream.specs.Lines.{decimalIn, decimal, bits, store, Added, Line}
+use Rattle.stores.proofs.Stored.{store-then, store-first}
+use Rattle.stores.specs.Stores.{store}
+use Rattle.stream.specs.Lines.{decimalIn, decimal, bits, Added, Line}
 
 -- ---- byte after byte
 
@@ -33,21 +35,13 @@ module _ (words : List ℕ) (at : ℕ) where
 
 -- ---- run after run
 
-sets-append : (l : List ℕ) (i : ℕ) (xs ys : List ℕ) → sets (sets l i xs) (i + length xs) ys ≡ sets l i (xs ++ ys)
-sets-append l i [] ys = ap (λ (k : ℕ). sets l k ys) (add-zero i)
-sets-append l i (x ∷ xs) ys =
-    ap (λ (k : ℕ). sets (sets l i (x ∷ xs)) k ys) (add-suc i (length xs) ∙ sym (suc-add i (length xs)))
-    ∙ sets-append _ (suc i) xs ys
-
-pub then : {xs ys : List ℕ} {j k : ℕ} {l l₁ l₂ : List ℕ} {at at₁ at₂ : ℕ} → Added xs j l at at₁ l₁ → Added ys k l₁ at₁ at₂ l₂ → Added (xs ++ ys) (j + k) l at at₂ l₂
-unfolding store
+pub then : {xs ys : List ℕ} {j k : ℕ} {l l₁ l₂ : List ℕ} {at at₁ at₂ : ℕ} → Added xs j l at at₁ l₁ → Added ys k l₁ at₁ at₂ l₂
+    → Added (xs ++ ys) (j + k) l at at₂ l₂
 then {xs} {ys} {j} {k} {l} {l₁} {l₂} {at} {at₁} {at₂} p q =
     record {
       behind = omega (arith, p .behind, q .behind, length-append xs ys);
       most = omega (arith, p .most, q .most, length-append xs ys);
-      stored =
-          q .stored ∙ ap (λ (m : List ℕ). sets m at₁ ys) (p .stored)
-          ∙ ap (λ (i : ℕ). sets (sets l at xs) i ys) (p .behind) ∙ sets-append l at xs ys;
+      stored = store-then l l₁ l₂ at at₁ xs ys (p .stored) (q .stored) (p .behind);
     }
 
 pub nothing : (k : ℕ) (l : List ℕ) (at : ℕ) → Added [] k l at at l

@@ -6,10 +6,11 @@ use mathlib.Core.Path.{_≡_}
 use lib.Dec.{ltb}
 use lib.Ieee.{Float, binary64, toBits}
 use lib.ListN.{length, drop}
-use lib.Seq.{sets}
 use Rattle.book.specs.Answers.{taken, value, refused, Replied, again, said}
+use Rattle.book.specs.Sessions.{Session}
 use Rattle.io.specs.Counts.{Counts}
 use Rattle.io.specs.Digits.{glyph, digits}
+use Rattle.stores.specs.Stores.{store}
 use Rattle.stream.specs.Text.{text}
 
 -- a number in decimal digits, the fewest that hold it, for numbers of at most so many
@@ -47,8 +48,8 @@ deliveryLine i reply count =
 abbrev pub amplitudeLine : ℕ → Float → Float → List ℕ
 amplitudeLine i re im = text "A " ++ (decimal i ++ (text " " ++ (bits re ++ (text " " ++ (bits im ++ text "\n")))))
 
-abbrev pub endLine : ℕ → List ℕ
-endLine count = text "END " ++ (decimal count ++ text "\n")
+abbrev pub endLine : Session → List ℕ
+endLine s = text "END " ++ (decimal (s .count) ++ text "\n")
 
 abbrev pub cutLine : List ℕ
 cutLine = text "CUT\n"
@@ -57,10 +58,6 @@ abbrev pub badHeaderLine : List ℕ
 badHeaderLine = text "BAD HEADER\n"
 
 -- ---- where they stand
-
--- a list with bytes stored from a place on
-unfoldable pub store : List ℕ → ℕ → List ℕ → List ℕ
-store l at bs = sets l at bs
 
 -- words were put at a place of a buffer, and nothing else changed; the answer is the place behind them, at most so far on
 pub record Added (words : List ℕ) (room : ℕ) (before : List ℕ) (at next : ℕ) (after : List ℕ) : Type 0 where

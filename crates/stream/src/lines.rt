@@ -2,34 +2,14 @@
 ghost use mathlib.Core.Path.{_≡_};
 ghost use Prim.Native.Nat.{_+_, _≤_};
 ghost use lib.ListN.{length};
-ghost use Rattle.book.specs.Answers.{numberOf};
-ghost use Rattle.sessions.specs.Deliveries.{replies};
+ghost use Rattle.book.specs.Answers.{replies};
+ghost use Rattle.book.specs.Sessions.{Session};
 ghost use Rattle.stream.specs.Lines.{saying, adding, deliveryLine, amplitudeLine, endLine, cutLine, badHeaderLine, Added, Line};
 use crate::words::add;
 use crate::words::add_bits;
 use crate::words::add_number;
-use book::Refusal;
-use sessions::Reply;
-
-// 01's number of a refusal.
-fn number_of(refusal: Refusal) -> u64
-    ensures { λ r. ⌜ r ≡ numberOf refusal ⌝ }
-{
-    match refusal {
-        Refusal::Size => 1,
-        Refusal::Length => 2,
-        Refusal::Qubit => 3,
-        Refusal::Same => 4,
-        Refusal::Form => 5,
-        Refusal::Number => 6,
-        Refusal::Chance => 7,
-        Refusal::Record => 8,
-        Refusal::Session => 9,
-        Refusal::Early => 10,
-        Refusal::Full => 11,
-        Refusal::Room => 12,
-    }
-}
+use answers::number_of;
+use book::Reply;
 
 // What a delivery says, in front of the count.
 fn add_saying(out: &mut [u8], at: usize, reply: Reply) -> usize
@@ -42,7 +22,7 @@ fn add_saying(out: &mut [u8], at: usize, reply: Reply) -> usize
         Reply::Again => add(out, at, b" AGAIN"),
         Reply::Refused(refusal) => {
             let behind = add(out, at, b" REFUSED ");
-            add_number(out, behind, number_of(refusal))
+            add_number(out, behind, number_of(refusal) as u64)
         }
     }
 }
@@ -87,8 +67,9 @@ pub fn amplitude_line(out: &mut [u8; 128], index: u64, re: f64, im: f64) -> usiz
     add(out, behind_im, b"\n")
 }
 
+// Of the session with this count.
 pub fn end_line(out: &mut [u8; 128], count: u16) -> usize
-    ensures { λ r. ⌜ Line (endLine count) (now (out .entry)) r (now (out .exit)) ⌝ }
+    ensures { λ r. ⌜ ((s : Session) → s .count ≡ count → Line (endLine s) (now (out .entry)) r (now (out .exit))) ⌝ }
 {
     let behind_end = add(out, 0, b"END ");
     let behind_count = add_number(out, behind_end, count as u64);

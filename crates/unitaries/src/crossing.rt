@@ -4,13 +4,13 @@ use book::Matrix;
 ghost use mathlib.Core.Path.{_≡_};
 ghost use Prim.Native.Nat.{_+_, _*_, _/_, _%_, _≤_, _<_};
 ghost use Rattle.book.specs.Lent.{before, after, here};
-ghost use Rattle.book.specs.Matrices.{crossing, pairOf};
+ghost use Rattle.book.specs.Matrices.{crossing, withoutTarget};
 ghost use Rattle.matrices.specs.Filled.{Holds, Filled};
 
 // An index without its target bit: the two places of a pair share it.
-fn pair_of(target: u32, i: usize) -> usize
+fn without_target(target: u32, i: usize) -> usize
     requires { ⌜ target < 6 ⌝ }
-    ensures { λ r. ⌜ r ≡ pairOf target i ⌝ }
+    ensures { λ r. ⌜ r ≡ withoutTarget target i ⌝ }
 {
     let bit: usize = 1 << target;
     i - (i >> target) % 2 * bit
@@ -22,7 +22,7 @@ fn crossing_at(matrix: Matrix, target: u32, row: usize, column: usize) -> Amplit
     ensures { λ r. ⌜ r ≡ crossing matrix target row column ⌝ }
 {
     let entries = matrix.entries;
-    if pair_of(target, row) != pair_of(target, column) {
+    if without_target(target, row) != without_target(target, column) {
         return Amplitude { re: 0.0, im: 0.0 };
     }
     entries[2 * ((row >> target) % 2) + (column >> target) % 2]

@@ -15,7 +15,7 @@ pub use products::multiply;
 use transpose::turn_all;
 ghost use mathlib.Core.Path.{_≡_};
 ghost use Rattle.book.specs.Answers.{Does};
-ghost use Rattle.book.specs.Kernels.{allFinite};
+ghost use Rattle.book.specs.Gates.{allFinite};
 ghost use Rattle.book.specs.Lent.{before, after};
 ghost use Rattle.book.specs.Matrices.{numbersOf, gateMatrix, conjugateTranspose};
 
@@ -28,7 +28,7 @@ fn finite_entries(matrix: Matrix) -> bool
     let b = entries[1];
     let c = entries[2];
     let d = entries[3];
-    state::all_finite(&[a.re, a.im, b.re, b.im, c.re, c.im, d.re, d.im])
+    judging::all_finite(&[a.re, a.im, b.re, b.im, c.re, c.im, d.re, d.im])
 }
 
 // A matrix from four finite amplitudes and a target.

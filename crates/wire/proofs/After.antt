@@ -2,11 +2,11 @@
 use Prim.Native.Nat.{ℕ}
 use mathlib.Core.List.{List}
 use mathlib.Core.Option.{Option}
-use Rattle.book.specs.Records.{number, listed, readGate, made}
+use Rattle.book.specs.Records.{number, listed, rowOf, readRow, recordWith}
 use Rattle.book.specs.declared.Record.{Record}
 
 abbrev pub after4 : ℕ → ℕ → ℕ → ℕ → List ℕ → Option Record
-after4 session k code target rest = made session k (readGate code target rest)
+after4 session k code target rest = recordWith session k (readRow (rowOf code) target rest)
 
 abbrev pub after3 : ℕ → ℕ → ℕ → List ℕ → Option Record
 after3 session k code rest = listed 0x04 1 rest λ target. after4 session k code (number target)

@@ -1,3 +1,2 @@
 -- What the writer's proofs share.
-mod Stored
 mod Whole

@@ -1,3 +1,2 @@
 -- What the writer's own functions store.
-pub mod Stores
-pub mod Shapes
+pub mod Heads

@@ -3,29 +3,28 @@ ghost use mathlib.Core.Path.{_≡_};
 ghost use Prim.Native.Nat.{_≤_};
 ghost use lib.ListN.{length};
 ghost use Rattle.book.specs.Records.{wroteOf, leftBy};
-ghost use Rattle.writer.specs.Stores.{store};
-ghost use Rattle.writer.specs.Shapes.{headOf};
+ghost use Rattle.stores.specs.Stores.{Stored};
+ghost use Rattle.writer.specs.Heads.{headOf};
 
-mod shapes;
-mod stores;
+mod storing;
 
-use crate::shapes::parts_of;
-use crate::shapes::size_of;
-use crate::shapes::store_shape;
-use crate::stores::store_number_field;
+use crate::storing::size_of;
+use crate::storing::store_shape;
 use book::Record;
 use book::Refusal;
 use book::Written;
+use shapes::parts_of;
+use stores::store_number_field;
 
 // Fields 01 to 04.
-fn store_head(out: &mut [u8], session: u32, number: u16, code: u8, target: u8)
+fn store_head(out: &mut [u8], session: u32, number: u16, code: u8, target: u8) -> usize
     requires { ⌜ 20 ≤ length (now out) ⌝ }
-    ensures { λ _. ⌜ now (out .exit) ≡ store (now (out .entry)) 0 (headOf session number code target) ⌝ }
+    ensures { λ r. ⌜ Stored (headOf session number code target) (now (out .entry)) 0 r (now (out .exit)) ⌝ }
 {
-    store_number_field(out, 0, 0x01, 4, session as u64);
-    store_number_field(out, 7, 0x02, 2, number as u64);
-    store_number_field(out, 12, 0x03, 1, code as u64);
-    store_number_field(out, 16, 0x04, 1, target as u64);
+    let at_number = store_number_field(out, 0, 0x01, 4, session as u64);
+    let at_code = store_number_field(out, at_number, 0x02, 2, number as u64);
+    let at_target = store_number_field(out, at_code, 0x03, 1, code as u64);
+    store_number_field(out, at_target, 0x04, 1, target as u64)
 }
 
 pub fn write_record(it: Record, out: &mut [u8]) -> Written
@@ -39,7 +38,6 @@ pub fn write_record(it: Record, out: &mut [u8]) -> Written
     if out.len() < size {
         return Written::Refused(Refusal::Room);
     }
-    store_head(out, it.session, it.number, parts.code, parts.target);
-    store_shape(out, shape);
-    Written::Bytes(size)
+    let behind = store_head(out, it.session, it.number, parts.code, parts.target);
+    Written::Bytes(store_shape(out, behind, shape))
 }

@@ -7,7 +7,7 @@ use lib.ListN.{length, take, drop}
 use mathlib.Core.List.{List}
 use mathlib.Core.Option.{some}
 use Rattle.book.specs.Records.{starts, readAngles}
-use Rattle.fields.specs.Answers.{eightOf}
+use Rattle.fields.specs.Answers.{anglesThere}
 use Rattle.fields.specs.declared.AnglesField.the-variants.{Angles as Eight}
 use Rattle.fields.proofs.Places.{here-room, here, gone, float-take}
 use borrow.Author.Needs.{needs}
@@ -34,26 +34,26 @@ angles-take l =
       sp = float-take 64 7 l (omega arith) i;
     }
 
-starts-at-requires : tie.Need-starts-at-requires
-starts-at-requires c κs = search needs
-
-add-angles-at : tie.Need-add-angles-at
-add-angles-at c = omega (arith, room c)
-
-angles-at-requires : tie.Need-angles-at-requires
-angles-at-requires c κs = omega (arith, room c)
-
 returns : tie.Need-returns
 returns c =
     let a = c .before .before .before .before .args in
-    ap Eight (c .angles-at .ensures ∙ sym (angles-take (drop (a .at + 3) (a .bytes .now))))
-    ∙ ap eightOf (sym (here (a .bytes .now) (a .at) (a .tag) 64 (λ x r. some (readAngles x)) (there (c .before))))
+    let eight = c .angles-at .ensures ∙ sym (angles-take (drop (a .at + 3) (a .bytes .now))) in
+    let is = here (a .bytes .now) (a .at) (a .tag) 64 (λ x r. some (readAngles x)) (there (c .before)) in
+    (λ i. Eight (eight i) (a .at + 67)) ∙ ap (anglesThere (a .at + 67)) (sym is)
 
 returns-2 : tie.Need-returns-2
 returns-2 c =
     let a = c .before .before .before .args in
-    ap eightOf (sym (gone (a .bytes .now) (a .at) (a .tag) 64 (λ x r. some (readAngles x)) (sym (c .before .starts-at .ensures) ∙ c .if1 .left)))
+    let missing = gone (a .bytes .now) (a .at) (a .tag) 64 (λ x r. some (readAngles x)) (sym (c .before .starts-at .ensures) ∙ c .if1 .left) in
+    ap (anglesThere (a .at + 67)) (sym missing)
 
 pub angles-field-spec : {M : Type 1} → statement M
 angles-field-spec =
-    tie.close (tie.spec starts-at-requires add-angles-at angles-at-requires returns returns-2)
+    tie.close
+    (tie.spec
+    (λ c κs. search needs)
+    (λ c. omega (arith, room c))
+    (λ c κs. omega (arith, room c))
+    (λ c. omega (arith, room (c .before)))
+    returns
+    returns-2)

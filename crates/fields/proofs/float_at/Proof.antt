@@ -6,21 +6,9 @@ use borrow.Author.Needs.{needs}
 use Rattle.fields.proofs.float_at.Statement.{statement}
 use Rattle.fields.proofs.float_at.Tie as tie
 
-mul-number-at : tie.Need-mul-number-at
-mul-number-at c = search needs
-
-add-number-at : tie.Need-add-number-at
-add-number-at c = search needs
-
-number-at-requires : tie.Need-number-at-requires
-number-at-requires c κs = search needs
-
-float-of-requires : tie.Need-float-of-requires
-float-of-requires c κs = search needs
-
 returns : tie.Need-returns
 returns c = rw drop-drop (c .float-of .ensures ∙ ap (ofBits binary64) (c .before .number-at .ensures .0))
 
 pub float-at-spec : {M : Type 1} → statement M
 float-at-spec =
-    tie.close (tie.spec mul-number-at add-number-at number-at-requires float-of-requires returns)
+    tie.close (tie.spec (λ c. search needs) (λ c. search needs) (λ c κs. search needs) (λ c κs. search needs) returns)

@@ -25,15 +25,6 @@ room n i h l = omega (arith, pow-le-pow-right {n = 256} (omega arith) {i = i} {j
 more : (n b i : ℕ) → n < 256 ^ i → b < 256 → n * 256 + b < 256 ^ (i + 1)
 more n b i h l = rw add-one (omega arith)
 
-loop-holds : tie.Need-loop-holds Inv-loop μ-loop
-loop-holds c = search needs
-
-add-byte : tie.Need-add-byte Inv-loop μ-loop
-add-byte c = search needs
-
-shared-slice-read-byte : tie.Need-shared-slice-read-byte Inv-loop μ-loop
-shared-slice-read-byte c = search needs
-
 cast-byte : tie.Need-cast-byte Inv-loop μ-loop
 cast-byte c = omega (arith, c .shared-slice-known .given (c .before .before .before .args .at + c .before .before .loop .i))
 
@@ -46,12 +37,6 @@ add-n : tie.Need-add-n Inv-loop μ-loop
 add-n c =
     let l = c .before .before .loop in
     omega (arith, room (l .n) (l .i) (l .inv .2) (omega arith), c .shared-slice-known .given (c .before .before .before .args .at + l .i))
-
-add-i : tie.Need-add-i Inv-loop μ-loop
-add-i c = search needs
-
-loop-less : tie.Need-loop-less Inv-loop μ-loop
-loop-less c = search needs
 
 loop-again : tie.Need-loop-again Inv-loop μ-loop
 loop-again c =
@@ -78,13 +63,13 @@ number-at-spec =
     (tie.spec
     Inv-loop
     μ-loop
-    loop-holds
-    add-byte
-    shared-slice-read-byte
+    (λ c. search needs)
+    (λ c. search needs)
+    (λ c. search needs)
     cast-byte
     mul-n
     add-n
-    add-i
-    loop-less
+    (λ c. search needs)
+    (λ c. search needs)
     loop-again
     returns)

@@ -11,26 +11,11 @@ use Rattle.fields.proofs.starts_at.Tie as tie
 returns : tie.Need-returns
 returns c = let a = c .before .before .args in too-short (a .bytes .now) (a .at) (a .tag) (a .len) (omega arith)
 
-sub-if2 : tie.Need-sub-if2
-sub-if2 c = search needs
-
-add-if2 : tie.Need-add-if2
-add-if2 c = search needs
-
 returns-2 : tie.Need-returns-2
 returns-2 c = let a = c .before .before .before .args in too-short (a .bytes .now) (a .at) (a .tag) (a .len) (omega arith)
 
-shared-slice-read-if3 : tie.Need-shared-slice-read-if3
-shared-slice-read-if3 c = search needs
-
 returns-3 : tie.Need-returns-3
 returns-3 c = let a = c .before .before .before .before .before .args in other-tag (a .bytes .now) (a .at) (a .tag) (a .len) (c .if3 .taken)
-
-add-number-at : tie.Need-add-number-at
-add-number-at c = search needs
-
-number-at-requires : tie.Need-number-at-requires
-number-at-requires c κs = search needs
 
 returns-4 : tie.Need-returns-4
 returns-4 c =
@@ -43,11 +28,11 @@ starts-at-spec =
     tie.close
     (tie.spec
     returns
-    sub-if2
-    add-if2
+    (λ c. search needs)
+    (λ c. search needs)
     returns-2
-    shared-slice-read-if3
+    (λ c. search needs)
     returns-3
-    add-number-at
-    number-at-requires
+    (λ c. search needs)
+    (λ c κs. search needs)
     returns-4)

@@ -1,24 +1,40 @@
--- `flat::gate_of` makes the gate of each code, and none of a code outside 1 to 12. Assumes nothing.
-use mathlib.Core.Path.{ap}
-use Prim.Native.Nat.{_≤_}
+-- `flat::gate_of` makes the gate of the row that its code has in the book's table. Assumes nothing.
+use native.Mathlib.Omega.{arith}
+use mathlib.Core.Path.{ap, _∙_}
 use borrow.Author.Needs.{needs}
-use Rattle.flat.specs.Numbers.{madeOf}
-use Rattle.flat.proofs.Codes.{other-code, above}
+use Rattle.book.specs.Records.{Row}
+use Rattle.book.specs.State.{controlled}
+use Rattle.book.specs.declared.Controls.{Controls}
+use Rattle.shapes.proofs.Rows.{plain-rows, angled-rows, low-row, high-row}
+use Rattle.shapes.specs.Gates.{madeOf, plainGate, angledGate}
+use Rattle.shapes.specs.declared.Made.the-variants.{Gate as Made}
+use Rattle.flat.specs.Numbers.{angle, gateOf}
 use Rattle.flat.proofs.gate_of.Statement.{statement}
 use Rattle.flat.proofs.gate_of.Tie as tie
 
--- the code is none of 1 to 12: each step is one arm that was not taken
-returns-13 : tie.Need-returns-13
-returns-13 c =
-    let r = c .match .rest in
-    let a = c .before .args in
-    let code = a .code in
-    let to-7 : 1 ≤ code → 7 ≤ code = λ l.
-    above (above (above (above (above (above l (r .0 .0 .0 .0 .0 .0 .0 .0 .0 .0 .0 .1)) (r .0 .0 .0 .0 .0 .0 .0 .0 .0 .0 .1))
-    (r .0 .0 .0 .0 .0 .0 .0 .0 .0 .1)) (r .0 .0 .0 .0 .0 .0 .0 .0 .1)) (r .0 .0 .0 .0 .0 .0 .0 .1)) (r .0 .0 .0 .0 .0 .0 .1) in
-    let to-13 : 1 ≤ code → 13 ≤ code = λ l.
-    above (above (above (above (above (above (to-7 l) (r .0 .0 .0 .0 .0 .1)) (r .0 .0 .0 .0 .1)) (r .0 .0 .0 .1)) (r .0 .0 .1)) (r .0 .1)) (r .1) in
-    ap madeOf (other-code (a .target) (a .second) (a .reset) (a .g) code to-13)
+returns-5 : tie.Need-returns-5
+returns-5 c =
+    let made = c .before .before .before .before in
+    let a = made .before .args in
+    ap Made (c .plain-gate .ensures) ∙ ap (λ (x : Controls). Made (plainGate (a .code) (a .target) x)) (made .of .ensures)
+    ∙ ap (λ (r : Row). madeOf (gateOf r (a .target) (a .second) (a .reset) (a .g))) (plain-rows (a .code) (omega arith) (omega arith))
+
+returns-6 : tie.Need-returns-6
+returns-6 c =
+    let made = c .before .before .before .before .before in
+    let a = made .before .args in
+    ap Made (c .angled-gate .ensures) ∙ ap (λ (x : Controls). Made (angledGate (a .code) (a .target) x (angle (a .g)))) (made .of .ensures)
+    ∙ ap (λ (r : Row). madeOf (gateOf r (a .target) (a .second) (a .reset) (a .g))) (angled-rows (a .code) (omega arith) (omega arith))
+
+returns-7 : tie.Need-returns-7
+returns-7 c =
+    let a = c .before .before .before .args in
+    ap (λ (r : Row). madeOf (gateOf r (a .target) (a .second) (a .reset) (a .g))) (low-row (a .code) (omega arith))
+
+returns-8 : tie.Need-returns-8
+returns-8 c =
+    let a = c .before .before .before .before .before .args in
+    ap (λ (r : Row). madeOf (gateOf r (a .target) (a .second) (a .reset) (a .g))) (high-row (a .code) (omega arith))
 
 pub gate-of-spec : {M : Type 1} → statement M
 gate-of-spec =
@@ -26,16 +42,14 @@ gate-of-spec =
     (tie.spec
     (λ c κs. search needs)
     (λ c κs. search needs)
-    (λ c. rw (c .match .keys1))
-    (λ c. rw (c .match .keys2))
-    (λ c. rw (c .match .keys3))
+    (λ c κs. search needs)
+    (λ c κs. search needs)
+    (λ c κs. search needs)
+    (λ c. rw (c .match .keys1, c .before .of .ensures))
+    (λ c. rw (c .before .match .keys2) (c .swap-of .ensures))
+    (λ c. rw (c .before .match .keys3) (c .measure-of .ensures))
     (λ c. rw (c .match .keys4))
-    (λ c. rw (c .match .keys5))
-    (λ c. rw (c .match .keys6))
-    (λ c. rw (c .match .keys7))
-    (λ c. rw (c .match .keys8))
-    (λ c. rw (c .match .keys9))
-    (λ c. rw (c .before .match .keys10) (c .swap-of .ensures))
-    (λ c. rw (c .before .match .keys11) (c .measure-of .ensures))
-    (λ c. rw (c .match .keys12))
-    returns-13)
+    returns-5
+    returns-6
+    returns-7
+    returns-8)

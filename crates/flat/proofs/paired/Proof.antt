@@ -6,7 +6,7 @@ use Rattle.flat.proofs.paired.Tie as tie
 
 returns : tie.Need-returns
 unfolding ofBits
-returns c = c .coded .ensures
+returns c = c .laid .ensures
 
 pub paired-spec : {M : Type 1} → statement M
 paired-spec = tie.close (tie.spec (λ c κs. search needs) returns)

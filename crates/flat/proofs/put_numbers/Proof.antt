@@ -9,13 +9,16 @@ use Rattle.flat.proofs.put_numbers.Tie as tie
 
 returns : tie.Need-returns
 returns c =
-    let a = c .before .before .before .args in
-    rw (c .before .flat-of .ensures) (puts (flatNumbers (a .it)) (a .numbers .now) (omega arith))
+    let laid = c .before in
+    let parts = laid .before in
+    let a = parts .before .before .args in
+    rw (laid .flat-of .ensures, parts .parts-of .ensures) (puts (flatNumbers (a .it)) (a .numbers .now) (omega arith))
 
 pub put-numbers-spec : {M : Type 1} → statement M
 put-numbers-spec =
     tie.close
     (tie.spec
+    (λ c κs. search needs)
     (λ c κs. search needs)
     (λ c. search needs)
     (λ c. simp length-set (omega arith))

@@ -13,14 +13,8 @@ returns c = let a = c .before .before .before .args in rw (eq-eqb (length (a .by
 returns-2 : tie.Need-returns-2
 returns-2 c = let a = c .before .before .before .args in rw (eq-eqb (length (a .bytes .now)) 0 (c .before .if1 .taken), c .if2 .left)
 
-shared-slice-read-if3 : tie.Need-shared-slice-read-if3
-shared-slice-read-if3 c = search needs
-
 returns-3 : tie.Need-returns-3
 returns-3 c = let s = c .before .before .before .before .args .bytes .now in rw (ne-eqb (length s) 0 (c .before .before .if1 .left), ne-eqb (getD s 0 0) 0x20 (c .if3 .taken))
-
-unfinished-requires : tie.Need-unfinished-requires
-unfinished-requires c κs = search needs
 
 returns-4 : tie.Need-returns-4
 returns-4 c =
@@ -31,12 +25,6 @@ returns-4 c =
       lt-ltb (length s) 3 (c .before .if4 .taken),
     )
     (c .unfinished .ensures)
-
-two-at-requires : tie.Need-two-at-requires
-two-at-requires c κs = search needs
-
-sized-requires : tie.Need-sized-requires
-sized-requires c κs = search needs
 
 returns-5 : tie.Need-returns-5
 returns-5 c =
@@ -55,10 +43,10 @@ next-frame-spec =
     (tie.spec
     returns
     returns-2
-    shared-slice-read-if3
+    (λ c. search needs)
     returns-3
-    unfinished-requires
+    (λ c κs. search needs)
     returns-4
-    two-at-requires
-    sized-requires
+    (λ c κs. search needs)
+    (λ c κs. search needs)
     returns-5)

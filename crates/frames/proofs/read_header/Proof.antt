@@ -19,46 +19,19 @@ here c =
 returns : tie.Need-returns
 returns c = (too-short (c .before .before .args .bytes .now) (c .if1 .taken), bad-small)
 
-shared-slice-read-if2 : tie.Need-shared-slice-read-if2
-shared-slice-read-if2 c = search needs
-
 returns-2 : tie.Need-returns-2
 returns-2 c = (other-tag (c .before .before .before .before .args .bytes .now) (c .if2 .taken), bad-small)
-
-two-at-requires : tie.Need-two-at-requires
-two-at-requires c κs = search needs
 
 returns-3 : tie.Need-returns-3
 returns-3 c =
     let s = c .before .before .before .before .before .before .args .bytes .now in
     (other-length s (c .before .before .if2 .left) (λ e. c .if3 .taken (c .before .two-at .ensures .0 ∙ e)), bad-small)
 
-shared-slice-read-n : tie.Need-shared-slice-read-n
-shared-slice-read-n c = search needs
-
 returns-4 : tie.Need-returns-4
 returns-4 c = (no-qubit (c .before .before .before .before .before .before .before .before .args .bytes .now) (c .if4 .taken) (here (c .before .before)), bad-small)
 
 returns-5 : tie.Need-returns-5
 returns-5 c = (too-many (c .before .before .before .before .before .before .before .before .before .args .bytes .now) (c .before .if4 .left) (c .if5 .taken) (here (c .before .before .before)), bad-small)
-
-two-at-requires-2 : tie.Need-two-at-requires-2
-two-at-requires-2 c κs = search needs
-
-mul-number : tie.Need-mul-number
-mul-number c = search needs
-
-two-at-requires-3 : tie.Need-two-at-requires-3
-two-at-requires-3 c κs = search needs
-
-add-number : tie.Need-add-number
-add-number c = search needs
-
-cast-qubits : tie.Need-cast-qubits
-cast-qubits c = search needs
-
-cast-session : tie.Need-cast-session
-cast-session c = search needs
 
 returns-6 : tie.Need-returns-6
 returns-6 c =
@@ -74,17 +47,17 @@ read-header-spec =
     tie.close
     (tie.spec
     returns
-    shared-slice-read-if2
+    (λ c. search needs)
     returns-2
-    two-at-requires
+    (λ c κs. search needs)
     returns-3
-    shared-slice-read-n
+    (λ c. search needs)
     returns-4
     returns-5
-    cast-qubits
-    two-at-requires-2
-    mul-number
-    two-at-requires-3
-    add-number
-    cast-session
+    (λ c. search needs)
+    (λ c κs. search needs)
+    (λ c. search needs)
+    (λ c κs. search needs)
+    (λ c. search needs)
+    (λ c. search needs)
     returns-6)

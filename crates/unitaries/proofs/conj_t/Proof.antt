@@ -7,9 +7,6 @@ use Rattle.unitaries.proofs.Judged.{transpose-size, transpose-long, tur
 use Rattle.unitaries.proofs.conj_t.Statement.{statement}
 use Rattle.unitaries.proofs.conj_t.Tie as tie
 
-bad-size-requires : tie.Need-bad-size-requires
-bad-size-requires c κs = search needs
-
 returns : tie.Need-returns
 returns c = transpose-size _ _ (sym (c .before .bad-size .ensures) ∙ c .if1 .taken)
 
@@ -19,26 +16,11 @@ shl-side c = shift-fits _ (sym (c .before .bad-size .ensures) ∙ c .if1 .left)
 mul-bad-length : tie.Need-mul-bad-length
 mul-bad-length c = record { fits = square-fits _ (side-le _ (most-is _ (sym (c .before .before .before .bad-size .ensures) ∙ c .before .before .if1 .left))) }
 
-bad-length-requires : tie.Need-bad-length-requires
-bad-length-requires c κs = search needs
-
-same-length : tie.Need-same-length
-same-length c = search needs
-
-same-length-2 : tie.Need-same-length-2
-same-length-2 c = search needs
-
 returns-2 : tie.Need-returns-2
 returns-2 c = transpose-long _ _ (sym (c .before .before .before .before .before .bad-size .ensures) ∙ c .before .before .before .before .if1 .left) (sym (c .before .bad-length .ensures) ∙ c .if2 .taken)
 
 turn-all-requires : tie.Need-turn-all-requires
 turn-all-requires c κs = (side-le _ (most-is _ (sym (c .before .before .before .before .before .before .before .bad-size .ensures) ∙ c .before .before .before .before .before .before .if1 .left)), held-places _ _ (sym (c .before .before .before .bad-length .ensures) ∙ c .before .before .if2 .left))
-
-same-length-3 : tie.Need-same-length-3
-same-length-3 c = search needs
-
-same-length-4 : tie.Need-same-length-4
-same-length-4 c = search needs
 
 returns-3 : tie.Need-returns-3
 returns-3 c =
@@ -50,15 +32,15 @@ pub conj-t-spec : {M : Type 1} → statement M
 conj-t-spec =
     tie.close
     (tie.spec
-    bad-size-requires
+    (λ c κs. search needs)
     returns
     shl-side
     mul-bad-length
-    bad-length-requires
-    same-length
-    same-length-2
+    (λ c κs. search needs)
+    (λ c. search needs)
+    (λ c. search needs)
     returns-2
     turn-all-requires
-    same-length-3
-    same-length-4
+    (λ c. search needs)
+    (λ c. search needs)
     returns-3)

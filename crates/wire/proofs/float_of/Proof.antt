@@ -29,8 +29,5 @@ float-from-bits-result c = no-nan (c .before .args .bits) (c .if1 .left)
 returns : tie.Need-returns
 returns c = the-nan (c .before .args .bits) (c .if1 .taken)
 
-returns-2 : tie.Need-returns-2
-returns-2 c = search needs
-
 pub float-of-spec : {M : Type 1} → statement M
-float-of-spec = tie.close (tie.spec float-from-bits-result returns returns-2)
+float-of-spec = tie.close (tie.spec float-from-bits-result returns (λ c. search needs))

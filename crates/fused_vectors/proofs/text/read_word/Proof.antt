@@ -5,46 +5,10 @@ use Rattle.fused_vectors.proofs.text.read_word.Statement.{statement}
 use Rattle.fused_vectors.proofs.text.read_word.Tie as tie
 
 abbrev Inv-loop : tie.InvT-loop
-Inv-loop s at read bits₀ i₀ bits i = i ≤ 17
+Inv-loop s at before read bits₀ i₀ bits i = i ≤ 17
 
 abbrev μ-loop : tie.MeasureT-loop
-μ-loop s at read bits₀ i₀ bits i = 17 - i
-
-shared-slice-read-read : tie.Need-shared-slice-read-read Inv-loop μ-loop
-shared-slice-read-read c = omega arith
-
-loop-holds : tie.Need-loop-holds Inv-loop μ-loop
-loop-holds c = omega arith
-
-add-digit : tie.Need-add-digit Inv-loop μ-loop
-add-digit c = omega arith
-
-shared-slice-read-digit : tie.Need-shared-slice-read-digit Inv-loop μ-loop
-shared-slice-read-digit c = omega arith
-
-digit-requires : tie.Need-digit-requires Inv-loop μ-loop
-digit-requires c κs = tt
-
-returns : tie.Need-returns Inv-loop μ-loop
-returns c = tt
-
-mul-bits : tie.Need-mul-bits Inv-loop μ-loop
-mul-bits c = omega arith
-
-add-bits : tie.Need-add-bits Inv-loop μ-loop
-add-bits c = omega arith
-
-add-i : tie.Need-add-i Inv-loop μ-loop
-add-i c = omega arith
-
-loop-less : tie.Need-loop-less Inv-loop μ-loop
-loop-less c = omega arith
-
-loop-again : tie.Need-loop-again Inv-loop μ-loop
-loop-again c = omega arith
-
-returns-2 : tie.Need-returns-2 Inv-loop μ-loop
-returns-2 c = tt
+μ-loop s at before read bits₀ i₀ bits i = 17 - i
 
 pub read-word-spec : {M : Type 1} → statement M
 read-word-spec =
@@ -52,15 +16,15 @@ read-word-spec =
     (tie.spec
     Inv-loop
     μ-loop
-    shared-slice-read-read
-    loop-holds
-    add-digit
-    shared-slice-read-digit
-    digit-requires
-    returns
-    mul-bits
-    add-bits
-    add-i
-    loop-less
-    loop-again
-    returns-2)
+    (λ c. omega arith)
+    (λ c. omega arith)
+    (λ c. omega arith)
+    (λ c. omega arith)
+    (λ c κs. tt)
+    (λ c. tt)
+    (λ c. omega arith)
+    (λ c. omega arith)
+    (λ c. omega arith)
+    (λ c. omega arith)
+    (λ c. omega arith)
+    (λ c. tt))

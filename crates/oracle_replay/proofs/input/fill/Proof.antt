@@ -7,10 +7,10 @@ use Rattle.oracle_replay.proofs.input.fill.Statement.{statement}
 use Rattle.oracle_replay.proofs.input.fill.Tie as tie
 
 abbrev Inv-loop : tie.InvT-loop
-Inv-loop into₀ i₀ into i = (i ≤ length into₀) × (length into ≡ length into₀)
+Inv-loop into₀ count i₀ into i = (i ≤ count) × (length into ≡ length into₀)
 
 abbrev μ-loop : tie.MeasureT-loop
-μ-loop into₀ i₀ into i = length into₀ - i
+μ-loop into₀ count i₀ into i = count - i
 
 pub fill-spec : {M : Type 1} → statement M
 fill-spec =
@@ -18,6 +18,8 @@ fill-spec =
     (tie.spec
     Inv-loop
     μ-loop
+    (λ c. search needs)
+    (λ c. search needs)
     (λ c. search needs)
     (λ c κs. search needs)
     (λ c. search needs)

@@ -20,41 +20,8 @@ abbrev μ-loop : tie.MeasureT-loop
 loop-holds : tie.Need-loop-holds Inv-loop μ-loop
 loop-holds c = (omega arith, nothing _ _ _)
 
-add-read-at : tie.Need-add-read-at Inv-loop μ-loop
-add-read-at c = search needs
-
-read-at-requires : tie.Need-read-at-requires Inv-loop μ-loop
-read-at-requires c κs = search needs
-
-add-read-at-2 : tie.Need-add-read-at-2 Inv-loop μ-loop
-add-read-at-2 c = search needs
-
-read-at-requires-2 : tie.Need-read-at-requires-2 Inv-loop μ-loop
-read-at-requires-2 c κs = search needs
-
-add-product-requires : tie.Need-add-product-requires Inv-loop μ-loop
-add-product-requires c κs = search needs
-
-add-write-at : tie.Need-add-write-at Inv-loop μ-loop
-add-write-at c = search needs
-
-write-at-requires : tie.Need-write-at-requires Inv-loop μ-loop
-write-at-requires c κs = search needs
-
-add-j : tie.Need-add-j Inv-loop μ-loop
-add-j c = search needs
-
-loop-less : tie.Need-loop-less Inv-loop μ-loop
-loop-less c = search needs
-
 loop-again : tie.Need-loop-again Inv-loop μ-loop
 loop-again c = (omega (arith, c .before .before .before .before .before .before .before .before .before .before .before .before .loop-test .taken), sum-more _ _ _ _ _ _ _ _ (c .before .before .before .before .before .before .before .before .before .before .before .before .before .loop .inv .1) (c .before .before .before .before .before .before .before .before .before .read-at .ensures) (c .before .before .before .before .before .before .before .before .read-at2 .ensures) (c .before .before .before .before .before .before .before .add-product .ensures) (c .before .before .before .before .write-at .ensures))
-
-same-length : tie.Need-same-length Inv-loop μ-loop
-same-length c = search needs
-
-same-length-2 : tie.Need-same-length-2 Inv-loop μ-loop
-same-length-2 c = search needs
 
 returns : tie.Need-returns Inv-loop μ-loop
 returns c = done (c .before .loop .inv) (c .loop-test .left)
@@ -66,16 +33,16 @@ add-row-spec =
     Inv-loop
     μ-loop
     loop-holds
-    add-read-at
-    read-at-requires
-    add-read-at-2
-    read-at-requires-2
-    add-product-requires
-    add-write-at
-    write-at-requires
-    add-j
-    loop-less
+    (λ c. search needs)
+    (λ c κs. search needs)
+    (λ c. search needs)
+    (λ c κs. search needs)
+    (λ c κs. search needs)
+    (λ c. search needs)
+    (λ c κs. search needs)
+    (λ c. search needs)
+    (λ c. search needs)
     loop-again
-    same-length
-    same-length-2
+    (λ c. search needs)
+    (λ c. search needs)
     returns)

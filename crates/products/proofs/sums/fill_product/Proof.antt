@@ -28,20 +28,8 @@ mul-fill-row c = record { fits = start-fits _ _ (c .before .before .loop-test .t
 fill-row-requires : tie.Need-fill-row-requires Inv-loop μ-loop
 fill-row-requires c κs = (record { most = c .before .before .before .before .before .before .before .before .before .before .pre .0; within = omega (arith, row-end _ _ (c .before .before .loop-test .taken), square-le _ (c .before .before .before .before .before .before .before .before .before .before .pre .0)) }, fewer (row-end _ _ (c .before .before .loop-test .taken)) (c .before .before .before .before .before .before .before .before .before .before .pre .1), c .before .before .before .before .before .before .before .before .before .before .pre .2, holds (c .before .before .before .loop .inv .1) (fewer (row-end _ _ (c .before .before .loop-test .taken)) (c .before .before .before .before .before .before .before .before .before .before .pre .3)))
 
-add-row : tie.Need-add-row Inv-loop μ-loop
-add-row c = search needs
-
-loop-less : tie.Need-loop-less Inv-loop μ-loop
-loop-less c = search needs
-
 loop-again : tie.Need-loop-again Inv-loop μ-loop
 loop-again c = (omega arith, rows-more _ _ _ _ _ _ _ (c .before .before .before .before .before .before .before .before .loop .inv .1) (c .before .before .before .before .fill-row .ensures))
-
-same-length : tie.Need-same-length Inv-loop μ-loop
-same-length c = search needs
-
-same-length-2 : tie.Need-same-length-2 Inv-loop μ-loop
-same-length-2 c = search needs
 
 returns : tie.Need-returns Inv-loop μ-loop
 returns c = let e : c .before .loop .row ≡ c .before .before .before .before .before .before .before .before .args .side = omega arith in rw e at (c .before .loop .inv .1)
@@ -55,9 +43,9 @@ fill-product-spec =
     loop-holds
     mul-fill-row
     fill-row-requires
-    add-row
-    loop-less
+    (λ c. search needs)
+    (λ c. search needs)
     loop-again
-    same-length
-    same-length-2
+    (λ c. search needs)
+    (λ c. search needs)
     returns)

@@ -18,17 +18,8 @@ Inv-loop ar ai br bi reals₀ imags₀ from side inner₀ reals imags inner = (i
 abbrev μ-loop : tie.MeasureT-loop
 μ-loop ar ai br bi reals₀ imags₀ from side inner₀ reals imags inner = side - inner
 
-clear-row-requires : tie.Need-clear-row-requires Inv-loop μ-loop
-clear-row-requires c κs = search needs
-
 loop-holds : tie.Need-loop-holds Inv-loop μ-loop
 loop-holds c = (omega arith, row-none _ _ _ _ _ _ (c .before .before .before .before .clear-row .ensures))
-
-add-read-at : tie.Need-add-read-at Inv-loop μ-loop
-add-read-at c = search needs
-
-read-at-requires : tie.Need-read-at-requires Inv-loop μ-loop
-read-at-requires c κs = search needs
 
 mul-add-row : tie.Need-mul-add-row Inv-loop μ-loop
 mul-add-row c = record { fits = start-fits _ _ (c .before .before .before .loop-test .taken) (c .before .before .before .before .before .before .before .before .before .before .before .before .before .before .before .before .before .before .pre .0 .most) }
@@ -36,20 +27,8 @@ mul-add-row c = record { fits = start-fits _ _ (c .before .before .before .loop-
 add-row-requires : tie.Need-add-row-requires Inv-loop μ-loop
 add-row-requires c κs = (holds (c .before .before .before .before .loop .inv .1) (holds (c .before .before .before .before .before .before .before .before .before .clear-row .ensures) (c .before .before .before .before .before .before .before .before .before .before .before .before .before .before .before .before .before .before .pre .3)), fewer (row-end _ _ (c .before .before .before .loop-test .taken)) (c .before .before .before .before .before .before .before .before .before .before .before .before .before .before .before .before .before .before .pre .2))
 
-add-inner : tie.Need-add-inner Inv-loop μ-loop
-add-inner c = search needs
-
-loop-less : tie.Need-loop-less Inv-loop μ-loop
-loop-less c = search needs
-
 loop-again : tie.Need-loop-again Inv-loop μ-loop
 loop-again c = (omega (arith, c .before .before .before .before .before .before .before .before .loop-test .taken), row-more _ _ _ _ _ _ _ _ _ (c .before .before .before .before .before .before .before .before .before .loop .inv .1) (c .before .before .before .before .before .before .before .read-at .ensures) (c .before .before .before .before .add-row .ensures))
-
-same-length : tie.Need-same-length Inv-loop μ-loop
-same-length c = search needs
-
-same-length-2 : tie.Need-same-length-2 Inv-loop μ-loop
-same-length-2 c = search needs
 
 returns : tie.Need-returns Inv-loop μ-loop
 returns c = let e : c .before .loop .inner ≡ c .before .before .before .before .before .before .before .before .before .before .before .before .before .before .before .args .side = omega arith in again (c .before .before .before .before .before .before .clear-row .ensures) (rw e at (c .before .loop .inv .1))
@@ -60,15 +39,15 @@ fill-row-spec =
     (tie.spec
     Inv-loop
     μ-loop
-    clear-row-requires
+    (λ c κs. search needs)
     loop-holds
-    add-read-at
-    read-at-requires
+    (λ c. search needs)
+    (λ c κs. search needs)
     mul-add-row
     add-row-requires
-    add-inner
-    loop-less
+    (λ c. search needs)
+    (λ c. search needs)
     loop-again
-    same-length
-    same-length-2
+    (λ c. search needs)
+    (λ c. search needs)
     returns)

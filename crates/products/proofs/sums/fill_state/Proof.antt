@@ -25,23 +25,8 @@ mul-row-dot c = record { fits = start-fits _ _ (c .loop-test .taken) (c .before 
 row-dot-requires : tie.Need-row-dot-requires Inv-loop μ-loop
 row-dot-requires c κs = (fewer (row-end _ _ (c .loop-test .taken)) (c .before .before .before .before .before .before .before .before .pre .1), c .before .before .before .before .before .before .before .before .pre .2)
 
-write-at-requires : tie.Need-write-at-requires Inv-loop μ-loop
-write-at-requires c κs = search needs
-
-add-row : tie.Need-add-row Inv-loop μ-loop
-add-row c = search needs
-
-loop-less : tie.Need-loop-less Inv-loop μ-loop
-loop-less c = search needs
-
 loop-again : tie.Need-loop-again Inv-loop μ-loop
 loop-again c = (omega arith, one-more (omega arith) (c .before .before .before .before .before .before .before .before .before .loop .inv .1) (c .before .before .before .before .write-at .ensures) (c .before .before .before .before .before .before .before .row-dot .ensures))
-
-same-length : tie.Need-same-length Inv-loop μ-loop
-same-length c = search needs
-
-same-length-2 : tie.Need-same-length-2 Inv-loop μ-loop
-same-length-2 c = search needs
 
 returns : tie.Need-returns Inv-loop μ-loop
 returns c = done (c .before .loop .inv) (c .loop-test .left)
@@ -55,10 +40,10 @@ fill-state-spec =
     loop-holds
     mul-row-dot
     row-dot-requires
-    write-at-requires
-    add-row
-    loop-less
+    (λ c κs. search needs)
+    (λ c. search needs)
+    (λ c. search needs)
     loop-again
-    same-length
-    same-length-2
+    (λ c. search needs)
+    (λ c. search needs)
     returns)

@@ -19,24 +19,6 @@ abbrev μ-loop : tie.MeasureT-loop
 loop-holds : tie.Need-loop-holds Inv-loop μ-loop
 loop-holds c = (omega arith, zero-is ∙ state-none _ _ _)
 
-add-read-at : tie.Need-add-read-at Inv-loop μ-loop
-add-read-at c = search needs
-
-read-at-requires : tie.Need-read-at-requires Inv-loop μ-loop
-read-at-requires c κs = search needs
-
-read-at-requires-2 : tie.Need-read-at-requires-2 Inv-loop μ-loop
-read-at-requires-2 c κs = search needs
-
-add-product-requires : tie.Need-add-product-requires Inv-loop μ-loop
-add-product-requires c κs = search needs
-
-add-inner : tie.Need-add-inner Inv-loop μ-loop
-add-inner c = search needs
-
-loop-less : tie.Need-loop-less Inv-loop μ-loop
-loop-less c = search needs
-
 loop-again : tie.Need-loop-again Inv-loop μ-loop
 loop-again c = (omega arith, state-more _ _ _ _ (c .before .before .before .before .loop .inv .1) (c .before .before .read-at .ensures) (c .before .read-at2 .ensures) (c .add-product .ensures))
 
@@ -50,11 +32,11 @@ row-dot-spec =
     Inv-loop
     μ-loop
     loop-holds
-    add-read-at
-    read-at-requires
-    read-at-requires-2
-    add-product-requires
-    add-inner
-    loop-less
+    (λ c. search needs)
+    (λ c κs. search needs)
+    (λ c κs. search needs)
+    (λ c κs. search needs)
+    (λ c. search needs)
+    (λ c. search needs)
     loop-again
     returns)

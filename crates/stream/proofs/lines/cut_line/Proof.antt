@@ -6,12 +6,6 @@ use borrow.Author.Needs.{needs}
 use Rattle.stream.proofs.lines.cut_line.Statement.{statement}
 use Rattle.stream.proofs.lines.cut_line.Tie as tie
 
-slice-aggregate-add : tie.Need-slice-aggregate-add
-slice-aggregate-add c = search needs
-
-add-requires : tie.Need-add-requires
-add-requires c κs = search needs
-
 returns : tie.Need-returns
 returns c = let room : 4 ≤ length (c .before .before .before .args .out .now) = search needs in line room (c .add .ensures)
 
@@ -19,6 +13,6 @@ pub cut-line-spec : {M : Type 1} → statement M
 cut-line-spec =
     tie.close
     (tie.spec
-    slice-aggregate-add
-    add-requires
+    (λ c. search needs)
+    (λ c κs. search needs)
     returns)

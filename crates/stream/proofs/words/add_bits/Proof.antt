@@ -12,23 +12,8 @@ use Rattle.stream.proofs.words.add_bits.Tie as tie
 at-most : (c : tie.After-hex) → c .hex .result ≤ 16
 at-most c = few 16 16 16 (c .hex .result) (c .before .before .bits-of .result) (omega arith) (omega arith) (omega arith) (c .hex .ensures .1 .0 .2)
 
-bits-of-requires : tie.Need-bits-of-requires
-bits-of-requires c κs = search needs
-
-hex-requires : tie.Need-hex-requires
-hex-requires c κs = search needs
-
-array-share-prefix-digits : tie.Need-array-share-prefix-digits
-array-share-prefix-digits c = search needs
-
-slice-aggregate-add : tie.Need-slice-aggregate-add
-slice-aggregate-add c = search needs
-
 add-requires : tie.Need-add-requires
 add-requires c κs = omega (arith, at-most (c .before .before), c .before .before .hex .ensures .0 .1)
-
-same-length : tie.Need-same-length
-same-length c = search needs
 
 returns : tie.Need-returns
 returns c =
@@ -43,10 +28,10 @@ pub add-bits-spec : {M : Type 1} → statement M
 add-bits-spec =
     tie.close
     (tie.spec
-    bits-of-requires
-    hex-requires
-    array-share-prefix-digits
-    slice-aggregate-add
+    (λ c κs. search needs)
+    (λ c κs. search needs)
+    (λ c. search needs)
+    (λ c. search needs)
     add-requires
-    same-length
+    (λ c. search needs)
     returns)

@@ -12,20 +12,8 @@ use Rattle.stream.proofs.words.add_number.Tie as tie
 at-most : (c : tie.After-decimal) → c .decimal .result ≤ 20
 at-most c = few 10 1 20 (c .decimal .result) (c .before .before .before .args .n) (omega arith) (omega arith) (omega arith) (c .decimal .ensures .1 .0 .2)
 
-decimal-requires : tie.Need-decimal-requires
-decimal-requires c κs = search needs
-
-array-share-prefix-digits : tie.Need-array-share-prefix-digits
-array-share-prefix-digits c = search needs
-
-slice-aggregate-add : tie.Need-slice-aggregate-add
-slice-aggregate-add c = search needs
-
 add-requires : tie.Need-add-requires
 add-requires c κs = omega (arith, at-most (c .before .before), c .before .before .decimal .ensures .0 .1)
-
-same-length : tie.Need-same-length
-same-length c = search needs
 
 returns : tie.Need-returns
 returns c =
@@ -38,9 +26,9 @@ pub add-number-spec : {M : Type 1} → statement M
 add-number-spec =
     tie.close
     (tie.spec
-    decimal-requires
-    array-share-prefix-digits
-    slice-aggregate-add
+    (λ c κs. search needs)
+    (λ c. search needs)
+    (λ c. search needs)
     add-requires
-    same-length
+    (λ c. search needs)
     returns)

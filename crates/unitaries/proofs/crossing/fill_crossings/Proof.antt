@@ -22,43 +22,16 @@ mul-size c = record { fits = square-fits _ (c .before .before .before .pre .2) }
 loop-holds : tie.Need-loop-holds Inv-loop μ-loop
 loop-holds c = (omega arith, nothing _ _ _)
 
-div-crossing-at : tie.Need-div-crossing-at Inv-loop μ-loop
-div-crossing-at c = search needs
-
-rem-crossing-at : tie.Need-rem-crossing-at Inv-loop μ-loop
-rem-crossing-at c = search needs
-
-crossing-at-requires : tie.Need-crossing-at-requires Inv-loop μ-loop
-crossing-at-requires c κs = search needs
-
-mul-reals : tie.Need-mul-reals Inv-loop μ-loop
-mul-reals c = search needs
-
 slice-write-reals : tie.Need-slice-write-reals Inv-loop μ-loop
 slice-write-reals c = let h = held-next (c .before .loop-test .taken) (c .before .before .loop .inv .1) (c .before .before .before .before .before .before .pre .3) in omega arith
 
-mul-imags : tie.Need-mul-imags Inv-loop μ-loop
-mul-imags c = search needs
-
 slice-write-imags : tie.Need-slice-write-imags Inv-loop μ-loop
 slice-write-imags c = let h = held-next (c .before .loop-test .taken) (c .before .before .loop .inv .1) (c .before .before .before .before .before .before .pre .3) in omega arith
-
-add-place : tie.Need-add-place Inv-loop μ-loop
-add-place c = search needs
-
-loop-less : tie.Need-loop-less Inv-loop μ-loop
-loop-less c = search needs
 
 loop-again : tie.Need-loop-again Inv-loop μ-loop
 loop-again c =
     let h = held-next (c .before .loop-test .taken) (c .before .before .loop .inv .1) (c .before .before .before .before .before .before .pre .3) in
     (omega (arith, c .before .loop-test .taken), one-more (omega arith) (c .before .before .loop .inv .1) (stored _ _ _ _ h) (c .crossing-at .ensures))
-
-same-length : tie.Need-same-length Inv-loop μ-loop
-same-length c = search needs
-
-same-length-2 : tie.Need-same-length-2 Inv-loop μ-loop
-same-length-2 c = search needs
 
 returns : tie.Need-returns Inv-loop μ-loop
 returns c = done (c .before .loop .inv) (c .loop-test .left)
@@ -71,16 +44,16 @@ fill-crossings-spec =
     μ-loop
     mul-size
     loop-holds
-    div-crossing-at
-    rem-crossing-at
-    crossing-at-requires
-    mul-reals
+    (λ c. search needs)
+    (λ c. search needs)
+    (λ c κs. search needs)
+    (λ c. search needs)
     slice-write-reals
-    mul-imags
+    (λ c. search needs)
     slice-write-imags
-    add-place
-    loop-less
+    (λ c. search needs)
+    (λ c. search needs)
     loop-again
-    same-length
-    same-length-2
+    (λ c. search needs)
+    (λ c. search needs)
     returns)

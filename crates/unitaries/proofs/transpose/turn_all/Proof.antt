@@ -26,20 +26,8 @@ loop-holds c = (omega arith, turned-none _ _)
 turn-at-requires : tie.Need-turn-at-requires Inv-loop μ-loop
 turn-at-requires c κs = (c .before .before .loop-test .taken, c .before .before .before .before .before .before .pre .0, same-holds (c .before .before .before .loop .inv .1 .size) (c .before .before .before .before .before .before .pre .1))
 
-add-place : tie.Need-add-place Inv-loop μ-loop
-add-place c = search needs
-
-loop-less : tie.Need-loop-less Inv-loop μ-loop
-loop-less c = search needs
-
 loop-again : tie.Need-loop-again Inv-loop μ-loop
 loop-again c = (omega (arith, c .before .before .before .before .before .before .before .loop-test .taken), turned-more _ _ (c .before .before .before .before .before .before .before .loop-test .taken) _ _ _ (c .before .before .before .before .before .before .before .before .loop .inv .1) (c .before .before .before .before .turn-at .ensures))
-
-same-length : tie.Need-same-length Inv-loop μ-loop
-same-length c = search needs
-
-same-length-2 : tie.Need-same-length-2 Inv-loop μ-loop
-same-length-2 c = search needs
 
 returns : tie.Need-returns Inv-loop μ-loop
 returns c = let e : c .before .loop .place ≡ c .before .before .before .before .args .side * c .before .before .before .before .args .side = omega arith in rw e at (c .before .loop .inv .1)
@@ -53,9 +41,9 @@ turn-all-spec =
     mul-size
     loop-holds
     turn-at-requires
-    add-place
-    loop-less
+    (λ c. search needs)
+    (λ c. search needs)
     loop-again
-    same-length
-    same-length-2
+    (λ c. search needs)
+    (λ c. search needs)
     returns)

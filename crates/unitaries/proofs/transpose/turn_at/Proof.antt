@@ -6,20 +6,11 @@ use Rattle.unitaries.proofs.Mirrors.{mirror-lt, left-alone, turned-at}
 use Rattle.unitaries.proofs.transpose.turn_at.Statement.{statement}
 use Rattle.unitaries.proofs.transpose.turn_at.Tie as tie
 
-mirror-of-requires : tie.Need-mirror-of-requires
-mirror-of-requires c κs = search needs
-
 returns : tie.Need-returns
 returns c = left-alone _ (c .before .mirror-of .ensures) (c .if1 .taken)
 
 cross-requires : tie.Need-cross-requires
 cross-requires c κs = (fewer (omega arith) (c .before .before .before .before .before .before .pre .2), fewer (omega (arith, mirror-lt _ _ (c .before .before .before .before .before .before .pre .0), c .before .before .before .mirror-of .ensures)) (c .before .before .before .before .before .before .pre .2))
-
-same-length : tie.Need-same-length
-same-length c = search needs
-
-same-length-2 : tie.Need-same-length-2
-same-length-2 c = search needs
 
 returns-2 : tie.Need-returns-2
 returns-2 c = turned-at _ _ (c .before .before .before .before .before .before .before .before .mirror-of .ensures) (c .before .before .before .before .before .before .before .if1 .left) (c .before .before .before .before .cross .ensures)
@@ -27,4 +18,4 @@ returns-2 c = turned-at _ _ (c .before .before .before .before .before .before .
 pub turn-at-spec : {M : Type 1} → statement M
 turn-at-spec =
     tie.close
-    (tie.spec mirror-of-requires returns cross-requires same-length same-length-2 returns-2)
+    (tie.spec (λ c κs. search needs) returns cross-requires (λ c. search needs) (λ c. search needs) returns-2)

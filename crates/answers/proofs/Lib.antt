@@ -1,0 +1,2 @@
+-- Apart: a number tells one answer.
+pub mod Apart

@@ -1,0 +1,2 @@
+-- How an answer stands in one number.
+pub mod Told

@@ -1,0 +1,56 @@
+// An answer as one number, laid out for all that is to come: the low byte is a refusal's number or a value, and what stands above it says which.
+// 0 taken, 1 to 255 a refusal, 256 AGAIN, 768 + v a value v; 512 + v is kept for an AGAIN that tells a value.
+use book::Answer;
+use book::Refusal;
+use book::Reply;
+ghost use mathlib.Core.Path.{_≡_};
+ghost use Rattle.book.specs.Answers.{numberOf, says, replies};
+ghost use Rattle.answers.specs.Told.{saidNumber, repliedNumber};
+
+pub const TAKEN: u32 = 0;
+
+// A value v is VALUE + v.
+const VALUE: u32 = 768;
+
+const AGAIN: u32 = 256;
+
+// 01's table.
+pub fn number_of(refusal: Refusal) -> u32
+    ensures { λ r. ⌜ r ≡ numberOf refusal ⌝ }
+{
+    match refusal {
+        Refusal::Size => 1,
+        Refusal::Length => 2,
+        Refusal::Qubit => 3,
+        Refusal::Same => 4,
+        Refusal::Form => 5,
+        Refusal::Number => 6,
+        Refusal::Chance => 7,
+        Refusal::Record => 8,
+        Refusal::Session => 9,
+        Refusal::Early => 10,
+        Refusal::Full => 11,
+        Refusal::Room => 12,
+    }
+}
+
+pub fn tell(answer: Answer) -> u32
+    ensures { λ r. ⌜ r ≡ saidNumber (says answer) ⌝ }
+{
+    match answer {
+        Answer::Taken => TAKEN,
+        Answer::Value(v) => VALUE + v as u32,
+        Answer::Refused(refusal) => number_of(refusal),
+    }
+}
+
+pub fn tell_reply(reply: Reply) -> u32
+    ensures { λ r. ⌜ r ≡ repliedNumber (replies reply) ⌝ }
+{
+    match reply {
+        Reply::Taken => TAKEN,
+        Reply::Value(v) => VALUE + v as u32,
+        Reply::Again => AGAIN,
+        Reply::Refused(refusal) => number_of(refusal),
+    }
+}

@@ -1,0 +1,2 @@
+-- Sums: the rising sum of squares, and the probability.
+pub mod Sums

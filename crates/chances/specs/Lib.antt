@@ -1,0 +1,2 @@
+-- The stretches of places that a sum goes over.
+pub mod Stretches

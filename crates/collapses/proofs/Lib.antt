@@ -1,0 +1,2 @@
+-- Stretches: stretches of places remade, one behind the other.
+pub mod Stretches

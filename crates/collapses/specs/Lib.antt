@@ -1,0 +1,2 @@
+-- What a collapse makes of each half.
+pub mod Halves

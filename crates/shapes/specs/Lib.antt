@@ -1,0 +1,2 @@
+-- The gates of the codes that share a shape.
+pub mod Gates

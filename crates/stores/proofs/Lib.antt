@@ -1,0 +1,2 @@
+-- Stored: bytes stored piece after piece.
+pub mod Stored

@@ -1,0 +1,37 @@
+-- `stores::store_start` stores a tag and a length. Assumes nothing.
+use Prim.Native.Nat.{ℕ, _+_}
+use native.Mathlib.Omega.{arith}
+use mathlib.Core.Path.{ap, _∙_}
+use mathlib.Core.List.{_∷_}
+use Rattle.book.specs.Records.{bytes}
+use Rattle.stores.specs.Stores.{store}
+use Rattle.stores.proofs.Stored.{store-then}
+use native.Mathlib.Nat.{div-one}
+use borrow.Author.Needs.{needs}
+use Rattle.stores.proofs.store_start.Statement.{statement}
+use Rattle.stores.proofs.store_start.Tie as tie
+
+store-number-requires : tie.Need-store-number-requires
+store-number-requires c κs = search needs
+
+add-store-number : tie.Need-add-store-number
+add-store-number c = search needs
+
+store-number-requires-2 : tie.Need-store-number-requires-2
+store-number-requires-2 c κs = search needs
+
+same-length : tie.Need-same-length
+same-length c = search needs
+
+returns : tie.Need-returns
+returns c =
+    let a = c .before .before .before .before .before .before .before .before .before .args in
+    let x = c .before .before .before .before .before .before .store-number in
+    let y = c .before .before .store-number2 in
+    store-then (a .out .now) (x .last .0) (y .last .0) (a .at) (a .at + 1) (bytes 1 (a .tag)) (bytes 2 (a .len)) (x .ensures) (y .ensures) (omega arith)
+    ∙ ap (λ (t : ℕ). store (a .out .now) (a .at) (t ∷ bytes 2 (a .len))) (div-one (a .tag))
+
+pub store-start-spec : {M : Type 1} → statement M
+store-start-spec =
+    tie.close
+    (tie.spec store-number-requires add-store-number store-number-requires-2 same-length returns)

@@ -1,0 +1,2 @@
+-- Bytes stored in a list.
+pub mod Stores
