@@ -1,5 +1,5 @@
--- The places of a half that have all bits of low, gone over one by one: no chosen place is passed over. Assumes nothing.
-use Prim.Native.Nat.{ℕ, _+_, _≤_, _<_, min}
+-- The places of a half by their keys, for any fixed bits and any number taken back: no chosen place is passed over. Assumes nothing.
+use Prim.Native.Nat.{ℕ, _+_, _-_, _≤_, _<_, min}
 use mathlib.Core.Path.{_≡_, sym, ap, _∙_, subst}
 use native.Mathlib.Omega.{arith}
 use borrow.Author.Tests.{eq-eqb, ne-eqb}
@@ -7,7 +7,7 @@ use lib.Bits.{bitAnd, bitOr, and-self, and-zero-r}
 use lib.Ieee.{Float}
 use lib.ListN.{length, set}
 use Rattle.book.specs.Answers.{Buffers, buffers}
-use Rattle.book.specs.State.{State, amplitude, at, chosen, controlled}
+use Rattle.book.specs.State.{State, amplitude, at}
 use Rattle.book.specs.declared.Amplitude.{Amplitude}
 use Rattle.book.specs.declared.Angle.{Angle}
 use Rattle.fed.specs.Named.{upperOf}
@@ -15,59 +15,65 @@ use Rattle.pairs.specs.Pairs.{SameSize, Mapped, Has}
 use Rattle.pairs.proofs.Bits.{or-ge, or-covers, next-least}
 use Rattle.pairs.proofs.Halves.{turn-same, Walked, walk-starts, walk-steps, walk-skips, walk-ends}
 use Rattle.pairs.proofs.Keys.{key-ge}
-use Rattle.halves.specs.Halves.{turnedAt}
+use Rattle.halves.specs.Halves.{turnedAt, Half}
 
-module _ (ones upper : ℕ) (angle : Angle) (i : ℕ) where
-  -- a place that has the controls is turned, any other stays
-  pub here-chosen : Has ones i → (x : Amplitude) → turnedAt (controlled ones) upper angle i x ≡ upperOf upper angle x
-  unfolding chosen
+module _ (fixed back upper : ℕ) (angle : Angle) (i : ℕ) where
+  -- a place whose key has the fixed bits is turned, any other stays
+  pub here-chosen : Has fixed (i + back) → (x : Amplitude) → turnedAt fixed back upper angle i x ≡ upperOf upper angle x
   here-chosen e x = rw (eq-eqb _ _ e)
 
-  pub unchosen : (Has ones i → ⊥) → (x : Amplitude) → turnedAt (controlled ones) upper angle i x ≡ x
-  unfolding chosen
+  pub unchosen : (Has fixed (i + back) → ⊥) → (x : Amplitude) → turnedAt fixed back upper angle i x ≡ x
   unchosen ne x = rw (ne-eqb _ _ ne)
 
--- without controls every place is turned
-pub unasked : (ones upper : ℕ) (angle : Angle) {b : ℕ} {s s′ : State} → ones ≡ 0
-    → Mapped (λ _. upperOf upper angle) 0 b s s′ → Mapped (turnedAt (controlled ones) upper angle) 0 b s s′
-unasked ones upper angle e =
-    turn-same (λ _. upperOf upper angle) (turnedAt (controlled ones) upper angle)
-    (λ i l x. sym (here-chosen ones upper angle i (ap (bitAnd i) e ∙ and-zero-r i ∙ sym e) x))
+-- where no bit is fixed every place is turned
+pub unasked : (fixed back upper : ℕ) (angle : Angle) {b : ℕ} {s s′ : State} → fixed ≡ 0
+    → Mapped (λ _. upperOf upper angle) 0 b s s′ → Mapped (turnedAt fixed back upper angle) 0 b s s′
+unasked fixed back upper angle e =
+    turn-same (λ _. upperOf upper angle) (turnedAt fixed back upper angle)
+    (λ i l x. sym (here-chosen fixed back upper angle i (ap (bitAnd (i + back)) e ∙ and-zero-r (i + back) ∙ sym e) x))
 
--- ---- the places of a half that have all bits of low, one by one; the last step may go past the end
-pub record Picked (low upper : ℕ) (angle : Angle) (b₀ : Buffers) (j : ℕ) (b : Buffers) : Type 0 where
-  pub on : Has low j
-  pub walked : Walked (turnedAt (controlled low) upper angle) b₀ (min j (length (b₀ .reals))) b
+-- ---- the places whose keys have all fixed bits, one by one; the last step may go past the end
+pub record Picked (fixed back upper : ℕ) (angle : Angle) (b₀ : Buffers) (w : ℕ) (b : Buffers) : Type 0 where
+  pub on : Has fixed w
+  pub walked : Walked (turnedAt fixed back upper angle) b₀ (min (w - back) (length (b₀ .reals))) b
 
-module _ (low upper : ℕ) (angle : Angle) (b₀ : Buffers) (equal : length (b₀ .imags) ≡ length (b₀ .reals)) where
+module _ (upper : ℕ) (angle : Angle) {fixed back : ℕ} {b₀ : Buffers} (ok : Half fixed back b₀) where
   abbrev f : ℕ → Amplitude → Amplitude
-  f = turnedAt (controlled low) upper angle
+  f = turnedAt fixed back upper angle
 
   abbrev size : ℕ
   size = length (b₀ .reals)
 
-  pub picks-start : Picked low upper angle b₀ low b₀
+  pub picks-start : Picked fixed back upper angle b₀ fixed b₀
   picks-start =
       record {
-        on = and-self low;
-        walked = walk-skips f b₀ equal (min low size) (walk-starts f b₀ equal) (omega arith) (omega arith)
-            (λ i x y. unchosen low upper angle i (λ h. omega (arith, key-ge low i h)));
+        on = and-self fixed;
+        walked = walk-skips f b₀ (ok .equal) (min (fixed - back) size) (walk-starts f b₀ (ok .equal)) (omega arith) (omega arith)
+            (λ i x y. unchosen fixed back upper angle i (λ h. omega (arith, key-ge fixed (i + back) h)));
       }
 
-  pub picks-step : (j : ℕ) (b : Buffers) (x y : Float) → Picked low upper angle b₀ j b → j < length (b .reals)
-      → amplitude x y ≡ upperOf upper angle (at b j) → Picked low upper angle b₀ (bitOr (j + 1) low) (buffers (set (b .reals) j x) (set (b .imags) j y))
-  picks-step j b x y u l e =
+  -- a key is not below what is taken back
+  pub picks-reach : {w : ℕ} {b : Buffers} → Picked fixed back upper angle b₀ w b → back ≤ w
+  picks-reach {w} u = omega (arith, key-ge fixed w (u .on), ok .reach)
+
+  pub picks-step : (w : ℕ) (b : Buffers) (x y : Float) → Picked fixed back upper angle b₀ w b → w - back < length (b .reals)
+      → amplitude x y ≡ upperOf upper angle (at b (w - back))
+      → Picked fixed back upper angle b₀ (bitOr (w + 1) fixed) (buffers (set (b .reals) (w - back) x) (set (b .imags) (w - back) y))
+  picks-step w b x y u l e =
+      let j : ℕ = w - back in
       let here : min j size ≡ j = omega (arith, u .walked .same .reals) in
       let walked : Walked f b₀ j b = subst (λ (k : ℕ). Walked f b₀ k b) here (u .walked) in
+      let key : w ≡ j + back = omega (arith, picks-reach u) in
       record {
-        on = or-covers (j + 1) low;
+        on = or-covers (w + 1) fixed;
         walked =
-            walk-skips f b₀ equal (min (bitOr (j + 1) low) size)
-            (walk-steps f b₀ equal j b x y walked l (e ∙ sym (here-chosen low upper angle j (u .on) (at b j))))
-            (omega (arith, or-ge (j + 1) low, u .walked .same .reals)) (omega arith)
-            (λ i p q. unchosen low upper angle i (λ h. omega (arith, next-least j low i (u .on) h (let g : j < i = omega arith in g))));
+            walk-skips f b₀ (ok .equal) (min (bitOr (w + 1) fixed - back) size)
+            (walk-steps f b₀ (ok .equal) j b x y walked l (e ∙ sym (here-chosen fixed back upper angle j (subst (Has fixed) key (u .on)) (at b j))))
+            (omega (arith, or-ge (w + 1) fixed, u .walked .same .reals)) (omega arith)
+            (λ i p q. unchosen fixed back upper angle i
+            (λ h. omega (arith, next-least w fixed (i + back) (u .on) h (let g : w < i + back = omega arith in g))));
       }
 
-  pub picks-end : (j : ℕ) (b : Buffers) → Picked low upper angle b₀ j b → length (b .reals) ≤ j
+  pub picks-end : (w : ℕ) (b : Buffers) → Picked fixed back upper angle b₀ w b → length (b .reals) ≤ w - back
       → Mapped f 0 (length (b₀ .reals)) (at b₀) (at b) × SameSize b₀ b
-  picks-end j b u l = walk-ends f b₀ equal (min j size) b (u .walked) (omega (arith, u .walked .same .reals))
+  picks-end w b u l = walk-ends f b₀ (ok .equal) (min (w - back) size) b (u .walked) (omega (arith, u .walked .same .reals))

@@ -6,10 +6,9 @@ use fed::put_upper;
 ghost use Prim.Native.Nat.{_%_};
 ghost use lib.ListN.{length};
 ghost use mathlib.Core.Path.{_≡_};
-ghost use Rattle.book.specs.Lent.{before, after};
-ghost use Rattle.book.specs.State.{controlled};
+ghost use Rattle.book.specs.Lent.{before, after, here};
 ghost use Rattle.fed.specs.Named.{upperOf};
-ghost use Rattle.halves.specs.Halves.{turnedAt, HalfTurned};
+ghost use Rattle.halves.specs.Halves.{turnedAt, HalfTurned, Half};
 
 // Every place of the lent half, one at a turn.
 fn turn_along(reals: &mut [f64], imags: &mut [f64], upper: u32, angle: Angle)
@@ -55,13 +54,21 @@ fn turn_by_twos(reals: &mut [f64], imags: &mut [f64], upper: u32, angle: Angle)
     }
 }
 
-// The places that have all bits of low, rising.
-fn turn_chosen(reals: &mut [f64], imags: &mut [f64], low: usize, upper: u32, angle: Angle)
-    requires { ⌜ length (now imags) ≡ length (now reals) ⌝ }
-    ensures { λ _. ⌜ HalfTurned (turnedAt (controlled low) upper angle) (before reals imags) (after reals imags) ⌝ }
+// w goes over the numbers that have all bits of low, rising; each is the key of a place, at w - back.
+fn turn_chosen(
+    reals: &mut [f64],
+    imags: &mut [f64],
+    low: usize,
+    back: usize,
+    upper: u32,
+    angle: Angle,
+)
+    requires { ⌜ Half low back (here reals imags) ⌝ }
+    ensures { λ _. ⌜ HalfTurned (turnedAt low back upper angle) (before reals imags) (after reals imags) ⌝ }
 {
-    let mut j = low;
-    while j < reals.len() {
+    let mut w = low;
+    while w - back < reals.len() {
+        let j = w - back;
         let cd = Amplitude {
             re: reals[j],
             im: imags[j],
@@ -69,19 +76,26 @@ fn turn_chosen(reals: &mut [f64], imags: &mut [f64], low: usize, upper: u32, ang
         let turned = put_upper(upper, angle, cd);
         reals[j] = turned.re;
         imags[j] = turned.im;
-        j = (j + 1) | low;
+        w = (w + 1) | low;
     }
 }
 
 // From this length on a half is left to the compiler's own joining of turns.
 const LONG: usize = 8;
 
-pub fn turn_half(reals: &mut [f64], imags: &mut [f64], low: usize, upper: u32, angle: Angle)
-    requires { ⌜ length (now imags) ≡ length (now reals) ⌝ }
-    ensures { λ _. ⌜ HalfTurned (turnedAt (controlled low) upper angle) (before reals imags) (after reals imags) ⌝ }
+pub fn turn_half(
+    reals: &mut [f64],
+    imags: &mut [f64],
+    low: usize,
+    back: usize,
+    upper: u32,
+    angle: Angle,
+)
+    requires { ⌜ Half low back (here reals imags) ⌝ }
+    ensures { λ _. ⌜ HalfTurned (turnedAt low back upper angle) (before reals imags) (after reals imags) ⌝ }
 {
     if low != 0 {
-        turn_chosen(reals, imags, low, upper, angle);
+        turn_chosen(reals, imags, low, back, upper, angle);
         return;
     }
     let len = reals.len();

@@ -2,6 +2,7 @@
 -- What a gate that leaves s0 does is this, with the identity on the lower halves. Assumes nothing.
 use Prim.Native.Nat.{ℕ, zero, suc, _+_, _-_, _*_, _^_, _≤_, _<_}
 use mathlib.Core.Bool.{Bool, true, false, cond}
+use mathlib.Core.Logic.{⊎-elim}
 use mathlib.Core.Path.{_≡_, refl, sym, ap, ap₂, _∙_, subst}
 use native.Mathlib.Decide.{decLt}
 use native.Mathlib.Nat.{pow-suc, add-mul, one-mul}
@@ -15,7 +16,8 @@ use Rattle.book.specs.declared.Amplitude.{Amplitude}
 use Rattle.book.specs.declared.Controls.{Controls}
 use Rattle.book.specs.declared.Pair.{Pair}
 use Rattle.judging.specs.Judging.{Seated}
-use Rattle.pairs.specs.Pairs.{SameSize, Mapped}
+use Rattle.pairs.specs.Pairs.{SameSize, Mapped, UppersTurned}
+use Rattle.pairs.proofs.Bits.{halves}
 use Rattle.pairs.proofs.Buffers.{held-ext}
 use Rattle.pairs.proofs.Lending.{lent, returned, lent-reals, lent-place, back-same, back-inside, back-before, back-after}
 use Rattle.pairs.proofs.Blocks.{Base, room, low, high as upper}
@@ -195,22 +197,37 @@ module _ (g : ℕ → Amplitude → Amplitude) (n t : ℕ) (qubit : t < n) (b₀
         let k : base + bit + bit - (base + bit) ≡ 2 ^ t = omega arith in
         subst (λ (x : ℕ). Step x (base + bit + bit - (base + bit)) p) (sym e) (subst (λ (x : ℕ). Step (2 ^ t) x p) (sym k) (blocks-step reals imags p))
 
--- ---- a gate that leaves s0 is its s1 on the upper halves, where the controls choose
-module _ (rule : Pair → Pair) (up : Amplitude → Amplitude) (keeps : (p : Pair) → rule p ≡ pair (p .s0) (up (p .s1))) (t : ℕ) (c : Controls) (s : State) where
-  upper-placed : (i : ℕ) → placed rule t c s i ≡ onUpper (λ j x. cond (chosen c j) (up x) x) t i (s i)
-  unfolding placed choice onUpper upBy
-  upper-placed i = go (chosen c i) (bit t i)
-    where
-      go : (b : Bool) (k : ℕ) → placeBy (half b k) rule s (2 ^ t) i ≡ upBy k (λ x. cond b (up x) x) (s i)
-      go false zero = refl
-      go false (suc k) = refl
-      go true zero = ap (λ (p : Pair). p .s0) (keeps (pair (s i) (s (i + 2 ^ t))))
-      go true (suc k) = ap (λ (p : Pair). p .s1) (keeps (pair (s (i - 2 ^ t)) (s i)))
+-- past the last block
+pub blocks-end : (g : ℕ → Amplitude → Amplitude) (n t : ℕ) {b b′ : Buffers} (base : ℕ) → Blocks g n t b base b′ → 2 ^ n ≤ base → UppersTurned g n t b b′
+unfolding onUpper upBy
+blocks-end g n t {b} base u l =
+    record {
+      same = u .same;
+      lower = λ i il z. u .turned .inside i (omega arith) (omega arith) ∙ ap (λ (k : ℕ). upBy k (g i) (at b i)) z;
+      upper = λ i il o. u .turned .inside i (omega arith) (omega arith) ∙ ap (λ (k : ℕ). upBy k (g i) (at b i)) o;
+    }
 
-module _ {n t : ℕ} {c : Controls} {b : Buffers} (ok : Seated n t c b) where
-  pub blocks-gate : (rule : Pair → Pair) (up : Amplitude → Amplitude) → ((p : Pair) → rule p ≡ pair (p .s0) (up (p .s1)))
-      → (base : ℕ) (b′ : Buffers) → Blocks (λ i x. cond (chosen c i) (up x) x) n t b base b′ → 2 ^ n ≤ base → b′ ≡ onPairs rule n t c b
-  unfolding onPairs
-  blocks-gate rule up keeps base b′ u l =
-      held-ext (2 ^ n) (placed rule t c (at b)) b′ (u .same .reals ∙ ok .reals) (u .same .imags ∙ ok .imags)
-      (λ i il. u .turned .inside i (omega arith) (omega arith) ∙ sym (upper-placed rule up keeps t c (at b) i))
+-- ---- a gate that leaves s0 is its s1 on the upper halves, where the controls choose
+module _ (rule : Pair → Pair) (up : Amplitude → Amplitude) (keeps : (p : Pair) → rule p ≡ pair (p .s0) (up (p .s1))) (t : ℕ) (c : Controls) (s : State) (i : ℕ) where
+  by-bit : (x : Bool) (k : ℕ) → placeBy (half x k) rule s (2 ^ t) i ≡ upBy k (λ z. cond x (up z) z) (s i)
+  unfolding upBy
+  by-bit false zero = refl
+  by-bit false (suc k) = refl
+  by-bit true zero = ap (λ (p : Pair). p .s0) (keeps (pair (s i) (s (i + 2 ^ t))))
+  by-bit true (suc k) = ap (λ (p : Pair). p .s1) (keeps (pair (s (i - 2 ^ t)) (s i)))
+
+  placed-by : (k : ℕ) → bit t i ≡ k → placed rule t c s i ≡ upBy k (λ z. cond (chosen c i) (up z) z) (s i)
+  unfolding placed choice
+  placed-by k e = ap (λ (k : ℕ). placeBy (half (chosen c i) k) rule s (2 ^ t) i) e ∙ by-bit (chosen c i) k
+
+-- whatever says which places are chosen
+pub uppers-gate : {n t : ℕ} {c : Controls} {b b′ : Buffers} (rule : Pair → Pair) (up : Amplitude → Amplitude) → Seated n t c b
+    → ((p : Pair) → rule p ≡ pair (p .s0) (up (p .s1))) → (pick : ℕ → Bool) → ((i : ℕ) → pick i ≡ chosen c i)
+    → UppersTurned (λ i x. cond (pick i) (up x) x) n t b b′ → b′ ≡ onPairs rule n t c b
+unfolding onPairs upBy
+uppers-gate {n} {t} {c} {b} {b′} rule up ok keeps pick same u =
+    held-ext (2 ^ n) (placed rule t c (at b)) b′ (u .same .reals ∙ ok .reals) (u .same .imags ∙ ok .imags)
+    (λ i il. ⊎-elim
+    (λ z. u .lower i il z ∙ sym (placed-by rule up keeps t c (at b) i 0 z))
+    (λ o. u .upper i il o ∙ ap (λ (x : Bool). cond x (up (at b i)) (at b i)) (same i) ∙ sym (placed-by rule up keeps t c (at b) i 1 o))
+    (halves t i))

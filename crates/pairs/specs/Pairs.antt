@@ -5,7 +5,7 @@ use mathlib.Core.Path.{_≡_}
 use lib.Bits.{bitAnd}
 use lib.ListN.{length}
 use Rattle.book.specs.Answers.{Buffers}
-use Rattle.book.specs.State.{State, at, pair}
+use Rattle.book.specs.State.{State, at, bit, pair}
 use Rattle.book.specs.declared.Amplitude.{Amplitude}
 use Rattle.book.specs.declared.Pair.{Pair}
 
@@ -71,3 +71,9 @@ pub record Mapped (f : ℕ → Amplitude → Amplitude) (a b : ℕ) (s s′ : St
   pub inside : (i : ℕ) → a ≤ i → i < b → s′ i ≡ f i (s i)
   pub before : (i : ℕ) → i < a → s′ i ≡ s i
   pub after : (i : ℕ) → b ≤ i → s′ i ≡ s i
+
+-- where the target's bit is 1 each place became what f makes of it, and the others stayed
+pub record UppersTurned (f : ℕ → Amplitude → Amplitude) (n t : ℕ) (b b′ : Buffers) : Type 0 where
+  pub same : SameSize b b′
+  pub lower : (i : ℕ) → i < 2 ^ n → bit t i ≡ 0 → at b′ i ≡ at b i
+  pub upper : (i : ℕ) → i < 2 ^ n → bit t i ≡ 1 → at b′ i ≡ f i (at b i)

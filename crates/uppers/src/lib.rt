@@ -9,33 +9,40 @@ use halves::turn_half;
 ghost use mathlib.Core.Path.{_≡_};
 ghost use Rattle.book.specs.Answers.{Does};
 ghost use Rattle.book.specs.Lent.{before, after, here};
-ghost use Rattle.book.specs.State.{controlled, onPairs};
+ghost use Rattle.book.specs.State.{onPairs};
 ghost use Rattle.fed.specs.Named.{loopUpper, upperGate};
+ghost use Rattle.halves.specs.Halves.{turnedAt};
 ghost use Rattle.judging.specs.Judging.{Seated};
+ghost use Rattle.pairs.specs.Pairs.{UppersTurned};
+ghost use Rattle.uppers.specs.Uppers.{Blocked};
 
-// Block by block, those whose base has the controls above the target; the upper half of a block is from a to e.
+// Block by block, those that hold a chosen place. A key has all fixed bits, and its place lies back below it: the fixed bits above the target are those
+// of a block's key, and the upper half of the block is from a to e; the fixed bits below the target are those of the keys within the half.
 fn turn_blocks(
     reals: &mut [f64],
     imags: &mut [f64],
     n: u32,
     target: u32,
-    ones: usize,
+    fixed: usize,
+    back: usize,
     upper: u32,
     angle: Angle,
 )
-    requires { ⌜ Seated n target (controlled ones) (here reals imags) ⌝ }
-    ensures { λ _. ⌜ after reals imags ≡ onPairs (loopUpper upper angle) n target (controlled ones) (before reals imags) ⌝ }
+    requires { ⌜ Blocked n target fixed back (here reals imags) ⌝ }
+    ensures { λ _. ⌜ UppersTurned (turnedAt fixed back upper angle) n target (before reals imags) (after reals imags) ⌝ }
 {
     let size: usize = 1 << n;
     let bit: usize = 1 << target;
-    let low = ones % bit;
-    let high = ones - low;
-    let mut base = high;
-    while base < size {
-        let a = base + bit;
+    let low = fixed % bit;
+    let high = fixed - low;
+    let under = back % bit;
+    let over = back - under;
+    let mut key = high;
+    while key - over < size {
+        let a = key - over + bit;
         let e = a + bit;
-        turn_half(&mut reals[a..e], &mut imags[a..e], low, upper, angle);
-        base = e | high;
+        turn_half(&mut reals[a..e], &mut imags[a..e], low, under, upper, angle);
+        key = (key + bit + bit) | high;
     }
 }
 
@@ -45,35 +52,45 @@ fn by_target(
     imags: &mut [f64],
     n: u32,
     target: u32,
-    ones: usize,
+    fixed: usize,
+    back: usize,
     upper: u32,
     angle: Angle,
 )
-    requires { ⌜ Seated n target (controlled ones) (here reals imags) ⌝ }
-    ensures { λ _. ⌜ after reals imags ≡ onPairs (loopUpper upper angle) n target (controlled ones) (before reals imags) ⌝ }
+    requires { ⌜ Blocked n target fixed back (here reals imags) ⌝ }
+    ensures { λ _. ⌜ UppersTurned (turnedAt fixed back upper angle) n target (before reals imags) (after reals imags) ⌝ }
 {
     match target {
-        0 => turn_blocks(reals, imags, n, target, ones, upper, angle),
-        1 => turn_blocks(reals, imags, n, target, ones, upper, angle),
-        2 => turn_blocks(reals, imags, n, target, ones, upper, angle),
-        _ => turn_blocks(reals, imags, n, target, ones, upper, angle),
+        0 => turn_blocks(reals, imags, n, target, fixed, back, upper, angle),
+        1 => turn_blocks(reals, imags, n, target, fixed, back, upper, angle),
+        2 => turn_blocks(reals, imags, n, target, fixed, back, upper, angle),
+        _ => turn_blocks(reals, imags, n, target, fixed, back, upper, angle),
     }
 }
 
+// The chosen places are those that have all ones of the controls: these are fixed, and nothing is taken back.
 // Without controls Z has a loop for each of the lowest targets.
-fn turn(reals: &mut [f64], imags: &mut [f64], n: u32, target: u32, ones: usize, fed: FedUpper)
-    requires { ⌜ Seated n target (controlled ones) (here reals imags) ⌝ }
-    ensures { λ _. ⌜ after reals imags ≡ onPairs (loopUpper (fed .number) (fed .angle)) n target (controlled ones) (before reals imags) ⌝ }
+fn turn(
+    reals: &mut [f64],
+    imags: &mut [f64],
+    n: u32,
+    target: u32,
+    controls: Controls,
+    fed: FedUpper,
+)
+    requires { ⌜ Seated n target controls (here reals imags) ⌝ }
+    ensures { λ _. ⌜ after reals imags ≡ onPairs (loopUpper (fed .number) (fed .angle)) n target controls (before reals imags) ⌝ }
 {
+    let fixed = controls.ones as usize;
     let number = fed.number;
     let angle = fed.angle;
-    if ones == 0 {
+    if fixed == 0 {
         if number == 0 {
-            by_target(reals, imags, n, target, ones, number, angle);
+            by_target(reals, imags, n, target, fixed, 0, number, angle);
             return;
         }
     }
-    turn_blocks(reals, imags, n, target, ones, number, angle);
+    turn_blocks(reals, imags, n, target, fixed, 0, number, angle);
 }
 
 // A gate that leaves s0 as it is, from what it is fed: judged once, then turned block by block.
@@ -91,7 +108,7 @@ pub fn on_uppers(
     let answer = judging::then(seat, fed::own_of_upper(upper));
     if let Answer::Taken = answer {
         let fed = feed_upper(upper);
-        turn(reals, imags, n, target, controls.ones as usize, fed);
+        turn(reals, imags, n, target, controls, fed);
     }
     answer
 }

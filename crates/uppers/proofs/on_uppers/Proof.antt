@@ -19,7 +19,7 @@ judged c =
 returns : tie.Need-returns
 returns c =
     let turned = c .before .before .before .before in
-    let fed = turned .before .before .before .before in
+    let fed = turned .before .before .before in
     let told = fed .before in
     G.gate-done (judged (told .before .before)) (told .enum-told .given .1) (upperRule (start (told .before .before) .args .upper))
     (rw (fed .feed-upper .ensures .puts) at (turned .turn .ensures))
@@ -34,8 +34,7 @@ on-uppers-spec =
     (λ c κs. search needs)
     (λ c. search needs)
     (λ c κs. search needs)
-    (λ c. search needs)
-    (λ c κs. let told = c .before .before .before .before in G.allowed (judged (told .before .before)) (told .enum-told .given .1))
+    (λ c κs. let told = c .before .before .before in G.allowed (judged (told .before .before)) (told .enum-told .given .1))
     (λ c. search needs)
     (λ c. search needs)
     returns
