@@ -8,7 +8,7 @@ use mathlib.Core.Path.{_≡_, refl, sym, ap, _∙_, subst}
 use native.Mathlib.Omega.{arith}
 use Rattle.book.proofs.Calls.{refused-keeps, sized-right, sized-wrong}
 use Rattle.book.proofs.Refusals.{sizes-numbered}
-use Rattle.book.specs.Answers.{numberOf, value, refused, says, Replied, said, replies, first, Buffers, Outcome, accepts, Does}
+use Rattle.book.specs.Answers.{numberOf, value, refused, says, Replied, said, replies, Test, first, Buffers, Outcome, accepts, Does}
 use Rattle.book.specs.Calls.{callOf, act}
 use Rattle.book.specs.Kernels.{sizeTests}
 use Rattle.book.specs.Records.{readRecord, readOf}
@@ -69,6 +69,14 @@ module _ (s : Book.Session) (b : Buffers) (bytes : List ℕ) where
 
 -- ---- the code's answers
 
+-- a verdict is no value
+pub never : {v : ℕ} {ts : List Test} {r : Answer} → Judges ts r → r ≡ Value v → ⊥
+never {v} {ts} j t = by (first ts) (ap says (sym t) ∙ j .is)
+  where
+    by : (k : ℕ) → value v ≡ verdict k → ⊥
+    by zero f = let z : _≡_ {A = ℕ} 0 1 = cc in omega arith
+    by (suc k) f = let z : _≡_ {A = ℕ} 0 1 = cc in omega arith
+
 module _ (s : Session) (b : Buffers) {a : Delivered} where
   module _ (x : Reply) {r : Answer} (j : Judges (sizeTests (s .n) b) r) where
     -- 1 or 2 refused
@@ -84,13 +92,6 @@ module _ (s : Session) (b : Buffers) {a : Delivered} where
     fine t e =
         rw e (subst (λ (k : ℕ). Delivers (kept (meant s) b (behindSize k (replies x))) (told s x) b) (sym (passed j t))
         (record { next = refl; reply = refl; count = refl; leaves = refl }))
-
-    pub never : {v : ℕ} → r ≡ Value v → ⊥
-    never {v} t = by (first (sizeTests (s .n) b)) (ap says (sym t) ∙ j .is)
-      where
-        by : (k : ℕ) → value v ≡ verdict k → ⊥
-        by zero f = let z : _≡_ {A = ℕ} 0 1 = cc in omega arith
-        by (suc k) f = let z : _≡_ {A = ℕ} 0 1 = cc in omega arith
 
   -- the gate was run
   pub ran : (bytes : List ℕ) (r : Record) {b′ : Buffers} {answer : Answer} → Does (act (s .n) (r .gate) b) answer b′
