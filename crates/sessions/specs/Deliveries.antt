@@ -1,5 +1,6 @@
 -- What a session and an answer of this crate mean in 01's words, and a delivery's whole contract. Definitions only. Assumes nothing.
 use Prim.Native.Nat.{ℕ, zero, suc, _+_}
+use mathlib.Core.List.{[]}
 use mathlib.Core.Option.{Option, some, none}
 use mathlib.Core.Path.{_≡_}
 use Rattle.book.specs.Answers.{refused, Replied, said, replies, first, Buffers}

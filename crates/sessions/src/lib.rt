@@ -95,7 +95,7 @@ impl Session {
         match judging::size(reals, imags, self.n) {
             Answer::Taken => self.kept(reply),
             Answer::Value(_) => self.kept(reply),
-            Answer::Refused(refusal) => self.kept(Reply::Refused(refusal)),
+            Answer::Refused(wrong) => self.kept(Reply::Refused(wrong)),
         }
     }
 

@@ -15,7 +15,7 @@ returns-3 c =
     let known = c .before .before in
     let size = known .before .before in
     let a = size .before .before .before .args in
-    small (a .self) _ (a .reply) (size .size .ensures) (known .refusal .given .1) (c .kept3 .ensures)
+    small (a .self) _ (a .reply) (size .size .ensures) (known .wrong .given .1) (c .kept3 .ensures)
 
 pub passed-spec : {M : Type 1} → statement M
 passed-spec =
