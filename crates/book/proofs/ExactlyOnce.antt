@@ -251,6 +251,10 @@ seen-append (d ∷ ds) bytes = by (readRecord d) (seen ds) (cons (readRecord byt
     by (some r) xs ys zs e = ap (λ (l : List Record). r ∷ l) e
     by none xs ys zs e = e
 
+-- the session that was started is the fresh one
+pub fresh-is : {n own : ℕ} {b : Buffers} {rs : List Record} (g : Given n own b rs) → g .session ≡ session n own 0
+fresh-is {n} {own} {b} {rs} g = started n own b rs g (badSize mostQubits n) (g .fresh) .1
+
 pub exactly-once : ExactlyOnce
 exactly-once n own b rs g ds bytes all one =
     let bench = deliverAll (record { session = g .session; state = b }) ds in

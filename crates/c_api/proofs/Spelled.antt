@@ -8,8 +8,9 @@ use mathlib.Core.Path.{_≡_, refl, ap, _∙_}
 use lib.Dec.{ltb}
 use lib.Ieee.{Float}
 use lib.ListN.{length}
+use Rattle.answers.specs.Told.{saidNumber}
 use Rattle.book.specs.Answers.{numberOf, says}
-use Rattle.book.specs.Records.{readOf, writeRecord, wroteOf, leftBy}
+use Rattle.book.specs.Records.{readOf, writeRecord, mostBytes, wroteOf, leftBy}
 use Rattle.book.specs.declared.Answer.{Answer}
 use Rattle.book.specs.declared.Answer.the-variants.{Taken, Refused}
 use Rattle.book.specs.declared.Read.the-variants.{Record as Found, Refused as Unread}
@@ -19,9 +20,8 @@ use Rattle.book.specs.declared.Refusal.the-variants.{Record as NoRecord, Room}
 use Rattle.book.specs.declared.Written.{Written}
 use Rattle.book.specs.declared.Written.the-variants.{Bytes, Refused as Unwritten}
 use Rattle.flat.specs.Numbers.{tooFew, Puts}
-use Rattle.records.proofs.Sizes.{at-most-94}
+use Rattle.records.proofs.Sizes.{at-most}
 use Rattle.c_api.specs.Spelling.{Reads, writtenOf, Writes}
-use Rattle.c_api.specs.Tells.{codeOf}
 
 -- ---- which of the two was read
 
@@ -40,11 +40,11 @@ module _ (o : Option Record) (fs : List ℕ) (xs : List Float) {code : ℕ} wher
   reads-none e a = let n = no-record o e in rw (n .0) (record { answers = a ∙ ap numberOf (n .1); fields = refl; numbers = refl })
 
   pub reads : {it : Record} {answer : Answer} {fs′ : List ℕ} {xs′ : List Float}
-      → readOf o ≡ Found it → Puts it fs xs answer fs′ xs′ → code ≡ codeOf (says answer) → Reads o fs xs code fs′ xs′
+      → readOf o ≡ Found it → Puts it fs xs answer fs′ xs′ → code ≡ saidNumber (says answer) → Reads o fs xs code fs′ xs′
   reads e p a = rw (a-record o e) (record { answers = a ∙ ap told (p .answers) ∙ by (tooFew fs xs); fields = p .fields; numbers = p .numbers })
     where
       told : Answer → ℕ
-      told x = codeOf (says x)
+      told x = saidNumber (says x)
 
       by : (t : Bool) → told (cond t (Refused Room) Taken) ≡ cond t 12 0
       by true = refl
@@ -61,9 +61,9 @@ module _ (o : Option Record) (out : List ℕ) {code : ℕ} where
   writes e w l a = rw (a-record o e) (record { answers = a ∙ ap writtenOf w; leaves = l })
 
 -- what is written fits a number of 32 bits
-pub size-fits : (it : Record) (out : List ℕ) {size : ℕ} → wroteOf it out ≡ Bytes size → size ≤ 94
+pub size-fits : (it : Record) (out : List ℕ) {size : ℕ} → wroteOf it out ≡ Bytes size → size ≤ mostBytes
 size-fits it out {size} = by (ltb (length out) (length (writeRecord it)))
   where
-    by : (t : Bool) → cond t (Unwritten Room) (Bytes (length (writeRecord it))) ≡ Bytes size → size ≤ 94
+    by : (t : Bool) → cond t (Unwritten Room) (Bytes (length (writeRecord it))) ≡ Bytes size → size ≤ mostBytes
     by true e = let z : _≡_ {A = ℕ} 0 1 = cc in absurd (omega arith)
-    by false e = let same : length (writeRecord it) ≡ size = cc in omega (arith, at-most-94 it)
+    by false e = let same : length (writeRecord it) ≡ size = cc in omega (arith, at-most it)

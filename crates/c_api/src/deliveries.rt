@@ -1,7 +1,7 @@
 // Sessions. A session is three numbers that the caller keeps: n, its own number, and the count, which a delivery writes back.
-use crate::answers::TAKEN;
-use crate::answers::number_of;
-use crate::answers::tell_reply;
+use answers::TAKEN;
+use answers::number_of;
+use answers::tell_reply;
 use sessions::Session;
 use sessions::Started;
 ghost use mathlib.Core.Path.{_≡_};
@@ -32,11 +32,7 @@ pub extern "C" fn gate_bench_deliver(
 ) -> u32
     ensures { λ r. ⌜ TellsDelivery (Book.deliver (Book.session n number (now (count .entry))) (before reals imags) (now (bytes .entry))) r (now (count .exit)) (after reals imags) ⌝ }
 {
-    let session = Session {
-        n,
-        number,
-        count: *count,
-    };
+    let session = Session::resume(n, number, *count);
     let delivered = session.deliver(bytes, reals, imags);
     *count = delivered.count;
     let reply = delivered.reply;

@@ -1,15 +1,15 @@
 // The kernels of gates.rs and measurement.rs. `ones` has a bit set for each control.
-use crate::answers::tell;
+use answers::tell;
 use book::Angle;
 use book::Angles;
 use book::Controls;
 use book::Forced;
+use book::Gate;
 use book::Noise;
-ghost use Rattle.book.specs.Gates.{xGate, yGate, zGate, hGate, pGate, rxGate, ryGate, rzGate, uGate};
-ghost use Rattle.book.specs.Kernels.{kernel, swap, bitFlip};
+ghost use Rattle.book.specs.Calls.{act};
 ghost use Rattle.book.specs.Lent.{before, after};
-ghost use Rattle.book.specs.Measuring.{measure};
-ghost use Rattle.c_api.specs.Tells.{Tells};
+ghost use Rattle.book.specs.State.{controlled};
+ghost use Rattle.c_api.specs.Tells.{Tells, eight};
 
 // s0 and s1 exchanged; any number of controls.
 #[no_mangle]
@@ -20,9 +20,9 @@ pub extern "C" fn gate_bench_x_apply(
     target: u32,
     ones: u32,
 ) -> u32
-    ensures { λ r. ⌜ Tells (kernel xGate n target (record { ones = ones }) (before reals imags)) r (after reals imags) ⌝ }
+    ensures { λ r. ⌜ Tells (act n (Gate.X target (controlled ones)) (before reals imags)) r (after reals imags) ⌝ }
 {
-    tell(gates::x_apply(reals, imags, n, target, Controls { ones }))
+    tell(gates::x_apply(reals, imags, n, target, Controls::of(ones)))
 }
 
 // Up to one control.
@@ -34,9 +34,9 @@ pub extern "C" fn gate_bench_y_apply(
     target: u32,
     ones: u32,
 ) -> u32
-    ensures { λ r. ⌜ Tells (kernel yGate n target (record { ones = ones }) (before reals imags)) r (after reals imags) ⌝ }
+    ensures { λ r. ⌜ Tells (act n (Gate.Y target (controlled ones)) (before reals imags)) r (after reals imags) ⌝ }
 {
-    tell(gates::y_apply(reals, imags, n, target, Controls { ones }))
+    tell(gates::y_apply(reals, imags, n, target, Controls::of(ones)))
 }
 
 // No controls.
@@ -48,9 +48,9 @@ pub extern "C" fn gate_bench_z_apply(
     target: u32,
     ones: u32,
 ) -> u32
-    ensures { λ r. ⌜ Tells (kernel zGate n target (record { ones = ones }) (before reals imags)) r (after reals imags) ⌝ }
+    ensures { λ r. ⌜ Tells (act n (Gate.Z target (controlled ones)) (before reals imags)) r (after reals imags) ⌝ }
 {
-    tell(gates::z_apply(reals, imags, n, target, Controls { ones }))
+    tell(gates::z_apply(reals, imags, n, target, Controls::of(ones)))
 }
 
 // Up to one control.
@@ -62,9 +62,9 @@ pub extern "C" fn gate_bench_h_apply(
     target: u32,
     ones: u32,
 ) -> u32
-    ensures { λ r. ⌜ Tells (kernel hGate n target (record { ones = ones }) (before reals imags)) r (after reals imags) ⌝ }
+    ensures { λ r. ⌜ Tells (act n (Gate.H target (controlled ones)) (before reals imags)) r (after reals imags) ⌝ }
 {
-    tell(gates::h_apply(reals, imags, n, target, Controls { ones }))
+    tell(gates::h_apply(reals, imags, n, target, Controls::of(ones)))
 }
 
 // Any number of controls.
@@ -78,14 +78,14 @@ pub extern "C" fn gate_bench_p_apply(
     cosine: f64,
     sine: f64,
 ) -> u32
-    ensures { λ r. ⌜ Tells (kernel (pGate (record { cosine = cosine; sine = sine })) n target (record { ones = ones }) (before reals imags)) r (after reals imags) ⌝ }
+    ensures { λ r. ⌜ Tells (act n (Gate.P target (controlled ones) (record { cosine = cosine; sine = sine })) (before reals imags)) r (after reals imags) ⌝ }
 {
     tell(gates::p_apply(
         reals,
         imags,
         n,
         target,
-        Controls { ones },
+        Controls::of(ones),
         Angle { cosine, sine },
     ))
 }
@@ -101,14 +101,14 @@ pub extern "C" fn gate_bench_rx_apply(
     cosine: f64,
     sine: f64,
 ) -> u32
-    ensures { λ r. ⌜ Tells (kernel (rxGate (record { cosine = cosine; sine = sine })) n target (record { ones = ones }) (before reals imags)) r (after reals imags) ⌝ }
+    ensures { λ r. ⌜ Tells (act n (Gate.Rx target (controlled ones) (record { cosine = cosine; sine = sine })) (before reals imags)) r (after reals imags) ⌝ }
 {
     tell(gates::rx_apply(
         reals,
         imags,
         n,
         target,
-        Controls { ones },
+        Controls::of(ones),
         Angle { cosine, sine },
     ))
 }
@@ -124,14 +124,14 @@ pub extern "C" fn gate_bench_ry_apply(
     cosine: f64,
     sine: f64,
 ) -> u32
-    ensures { λ r. ⌜ Tells (kernel (ryGate (record { cosine = cosine; sine = sine })) n target (record { ones = ones }) (before reals imags)) r (after reals imags) ⌝ }
+    ensures { λ r. ⌜ Tells (act n (Gate.Ry target (controlled ones) (record { cosine = cosine; sine = sine })) (before reals imags)) r (after reals imags) ⌝ }
 {
     tell(gates::ry_apply(
         reals,
         imags,
         n,
         target,
-        Controls { ones },
+        Controls::of(ones),
         Angle { cosine, sine },
     ))
 }
@@ -147,14 +147,14 @@ pub extern "C" fn gate_bench_rz_apply(
     cosine: f64,
     sine: f64,
 ) -> u32
-    ensures { λ r. ⌜ Tells (kernel (rzGate (record { cosine = cosine; sine = sine })) n target (record { ones = ones }) (before reals imags)) r (after reals imags) ⌝ }
+    ensures { λ r. ⌜ Tells (act n (Gate.Rz target (controlled ones) (record { cosine = cosine; sine = sine })) (before reals imags)) r (after reals imags) ⌝ }
 {
     tell(gates::rz_apply(
         reals,
         imags,
         n,
         target,
-        Controls { ones },
+        Controls::of(ones),
         Angle { cosine, sine },
     ))
 }
@@ -176,14 +176,14 @@ pub extern "C" fn gate_bench_u_apply(
     cp: f64,
     sp: f64,
 ) -> u32
-    ensures { λ r. ⌜ Tells (kernel (uGate (record { ct = ct; st = st; cl = cl; sl = sl; cpl = cpl; spl = spl; cp = cp; sp = sp })) n target (record { ones = ones }) (before reals imags)) r (after reals imags) ⌝ }
+    ensures { λ r. ⌜ Tells (act n (Gate.U target (controlled ones) (eight ct st cl sl cpl spl cp sp)) (before reals imags)) r (after reals imags) ⌝ }
 {
     tell(gates::u_apply(
         reals,
         imags,
         n,
         target,
-        Controls { ones },
+        Controls::of(ones),
         Angles {
             ct,
             st,
@@ -206,7 +206,7 @@ pub extern "C" fn gate_bench_swap_apply(
     t0: u32,
     t1: u32,
 ) -> u32
-    ensures { λ r. ⌜ Tells (swap n t0 t1 (before reals imags)) r (after reals imags) ⌝ }
+    ensures { λ r. ⌜ Tells (act n (Gate.Swap t0 t1) (before reals imags)) r (after reals imags) ⌝ }
 {
     tell(gates::swap_apply(reals, imags, n, t0, t1))
 }
@@ -221,7 +221,7 @@ pub extern "C" fn gate_bench_bit_flip_noise_apply(
     prob: f64,
     draw: f64,
 ) -> u32
-    ensures { λ r. ⌜ Tells (bitFlip n target (record { prob = prob; draw = draw }) (before reals imags)) r (after reals imags) ⌝ }
+    ensures { λ r. ⌜ Tells (act n (Gate.BitFlip target (record { prob = prob; draw = draw })) (before reals imags)) r (after reals imags) ⌝ }
 {
     tell(gates::bit_flip_noise_apply(reals, imags, n, target, Noise { prob, draw }))
 }
@@ -236,7 +236,7 @@ pub extern "C" fn gate_bench_measure_qubit(
     outcome: u8,
     reset: u8,
 ) -> u32
-    ensures { λ r. ⌜ Tells (measure n target (record { outcome = outcome; reset = reset }) (before reals imags)) r (after reals imags) ⌝ }
+    ensures { λ r. ⌜ Tells (act n (Gate.Measure target (record { outcome = outcome; reset = reset })) (before reals imags)) r (after reals imags) ⌝ }
 {
     tell(measurement::measure_qubit(reals, imags, n, target, Forced { outcome, reset }))
 }

@@ -1,5 +1,5 @@
 // The calls of unitaries.rs: matrices of side 2^n, n from 1 to 6.
-use crate::answers::tell;
+use answers::tell;
 use book::Amplitude;
 use book::Matrix;
 ghost use Rattle.book.specs.Lent.{before, after};

@@ -1,6 +1,6 @@
 // A record's bytes from its numbers, and its numbers from the bytes.
-use crate::answers::number_of;
-use crate::answers::tell;
+use answers::number_of;
+use answers::tell;
 use book::Read;
 use book::Written;
 use flat::put_record;

@@ -1,14 +1,14 @@
 -- `c_api::deliveries::gate_bench_deliver` tells what the delivery says, and writes its count back. Assumes nothing.
 use mathlib.Core.Path.{ap, _∙_}
 use borrow.Author.Needs.{needs}
-use Rattle.c_api.specs.Tells.{replyOf}
+use Rattle.answers.specs.Told.{repliedNumber}
 use Rattle.c_api.proofs.deliveries.gate_bench_deliver.Statement.{statement}
 use Rattle.c_api.proofs.deliveries.gate_bench_deliver.Tie as tie
 
 returns : tie.Need-returns
 returns c =
     let delivers = c .before .before .before .before .before .deliver .ensures in
-    record { answers = c .tell-reply .ensures ∙ ap replyOf (delivers .reply); counts = delivers .count; leaves = delivers .leaves }
+    record { answers = c .tell-reply .ensures ∙ ap repliedNumber (delivers .reply); counts = delivers .count; leaves = delivers .leaves }
 
 pub gate-bench-deliver-spec : {M : Type 1} → statement M
 gate-bench-deliver-spec =
