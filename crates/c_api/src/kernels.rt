@@ -1,4 +1,4 @@
-// The kernels of gates.rs and measurement.rs. `ones` has a bit set for each control.
+// The kernels of gates.rs and measurement.rs. `ones` has a bit set for each control; its Controls is written out, so that `search` proves each wrapper by itself.
 use answers::tell;
 use book::Angle;
 use book::Angles;
@@ -22,7 +22,7 @@ pub extern "C" fn gate_bench_x_apply(
 ) -> u32
     ensures { λ r. ⌜ Tells (act n (Gate.X target (controlled ones)) (before reals imags)) r (after reals imags) ⌝ }
 {
-    tell(gates::x_apply(reals, imags, n, target, Controls::of(ones)))
+    tell(gates::x_apply(reals, imags, n, target, Controls { ones }))
 }
 
 // Up to one control.
@@ -36,7 +36,7 @@ pub extern "C" fn gate_bench_y_apply(
 ) -> u32
     ensures { λ r. ⌜ Tells (act n (Gate.Y target (controlled ones)) (before reals imags)) r (after reals imags) ⌝ }
 {
-    tell(gates::y_apply(reals, imags, n, target, Controls::of(ones)))
+    tell(gates::y_apply(reals, imags, n, target, Controls { ones }))
 }
 
 // No controls.
@@ -50,7 +50,7 @@ pub extern "C" fn gate_bench_z_apply(
 ) -> u32
     ensures { λ r. ⌜ Tells (act n (Gate.Z target (controlled ones)) (before reals imags)) r (after reals imags) ⌝ }
 {
-    tell(gates::z_apply(reals, imags, n, target, Controls::of(ones)))
+    tell(gates::z_apply(reals, imags, n, target, Controls { ones }))
 }
 
 // Up to one control.
@@ -64,7 +64,7 @@ pub extern "C" fn gate_bench_h_apply(
 ) -> u32
     ensures { λ r. ⌜ Tells (act n (Gate.H target (controlled ones)) (before reals imags)) r (after reals imags) ⌝ }
 {
-    tell(gates::h_apply(reals, imags, n, target, Controls::of(ones)))
+    tell(gates::h_apply(reals, imags, n, target, Controls { ones }))
 }
 
 // Any number of controls.
@@ -85,7 +85,7 @@ pub extern "C" fn gate_bench_p_apply(
         imags,
         n,
         target,
-        Controls::of(ones),
+        Controls { ones },
         Angle { cosine, sine },
     ))
 }
@@ -108,7 +108,7 @@ pub extern "C" fn gate_bench_rx_apply(
         imags,
         n,
         target,
-        Controls::of(ones),
+        Controls { ones },
         Angle { cosine, sine },
     ))
 }
@@ -131,7 +131,7 @@ pub extern "C" fn gate_bench_ry_apply(
         imags,
         n,
         target,
-        Controls::of(ones),
+        Controls { ones },
         Angle { cosine, sine },
     ))
 }
@@ -154,7 +154,7 @@ pub extern "C" fn gate_bench_rz_apply(
         imags,
         n,
         target,
-        Controls::of(ones),
+        Controls { ones },
         Angle { cosine, sine },
     ))
 }
@@ -183,7 +183,7 @@ pub extern "C" fn gate_bench_u_apply(
         imags,
         n,
         target,
-        Controls::of(ones),
+        Controls { ones },
         Angles {
             ct,
             st,

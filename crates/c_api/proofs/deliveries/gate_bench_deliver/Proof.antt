@@ -7,9 +7,11 @@ use Rattle.c_api.proofs.deliveries.gate_bench_deliver.Tie as tie
 
 returns : tie.Need-returns
 returns c =
-    let delivers = c .before .before .before .before .before .deliver .ensures in
+    let run = c .before .before .before .before .before in
+    let delivers = rw (run .before .before .before .resume .ensures) at (run .deliver .ensures) in
     record { answers = c .tell-reply .ensures ∙ ap repliedNumber (delivers .reply); counts = delivers .count; leaves = delivers .leaves }
 
 pub gate-bench-deliver-spec : {M : Type 1} → statement M
 gate-bench-deliver-spec =
-    tie.close (tie.spec (λ c κs. search needs) (λ c κs. search needs) (λ c. search needs) (λ c. search needs) returns)
+    tie.close
+    (tie.spec (λ c κs. search needs) (λ c κs. search needs) (λ c κs. search needs) (λ c. search needs) (λ c. search needs) returns)
