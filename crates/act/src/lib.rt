@@ -2,8 +2,8 @@
 use book::Answer;
 use book::Gate;
 ghost use Rattle.book.specs.Answers.{Does};
+ghost use Rattle.book.specs.Calls as Book;
 ghost use Rattle.book.specs.Lent.{before, after};
-ghost use Rattle.book.specs.Sessions as Book;
 
 pub fn act(n: u32, gate: Gate, reals: &mut [f64], imags: &mut [f64]) -> Answer
     ensures { λ r. ⌜ Does (Book.act n gate (before reals imags)) r (after reals imags) ⌝ }
