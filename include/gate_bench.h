@@ -1,10 +1,13 @@
 /* The gate bench for C: the calls of libc_api.a, which `rt staticlib c_api` writes to target/staticlib/.
  *
  * Every call takes any numbers and any bytes, ends, and answers with one number:
- *   0        taken
- *   1 to 12  refused, with the rule book's number (GATE_BENCH_REFUSED_...); then nothing has changed
- *   16       AGAIN: a delivery's record was run before, and nothing has changed
- *   32 + v   taken, with the value v (0 or 1) of a measurement or a bit flip
+ *   0         taken
+ *   1 to 255  refused, with the rule book's number; then nothing has changed. This archive gives 1 to 12
+ *             (GATE_BENCH_REFUSED_...), a later one may give more
+ *   256       AGAIN: a delivery's record was run before, and nothing has changed
+ *   768 + v   taken, with the value v (0 or 1) of a measurement or a bit flip
+ * 512 + v is kept for later, for an AGAIN that tells a value v. So a caller that is to outlive this archive asks in this order:
+ * 0 taken, below 256 refused, below 768 AGAIN, else a value. A record's writing alone answers with a size (see there).
  * A state of n qubits is two buffers of 2^n doubles, real and imaginary parts; a matrix two of 4^n, row by row.
  * A slice is passed as a pointer and a length in elements. What the caller answers for: the pointer is not NULL and is
  * aligned, that many elements are there, nothing that a call writes overlaps another of its buffers, and no other thread
@@ -35,9 +38,9 @@ enum gate_bench_answer {
     GATE_BENCH_REFUSED_EARLY = 10,
     GATE_BENCH_REFUSED_FULL = 11,
     GATE_BENCH_REFUSED_ROOM = 12,
-    GATE_BENCH_AGAIN = 16,
-    GATE_BENCH_VALUE_0 = 32,
-    GATE_BENCH_VALUE_1 = 33
+    GATE_BENCH_AGAIN = 256,
+    GATE_BENCH_VALUE_0 = 768,
+    GATE_BENCH_VALUE_1 = 769
 };
 
 /* ---- sessions */
@@ -46,7 +49,7 @@ enum gate_bench_answer {
 uint32_t gate_bench_start(uint32_t n, uint32_t number);
 
 /* One delivery: the bytes are read as a record and, if its number is the count, run on the state; the count is then one
- * higher. A lower number answers 16, a higher one 10. Refusals in the order 1, 2, 8, 9, 11, (16), 10, 3 to 7. */
+ * higher. A lower number answers 256, a higher one 10. Refusals in the order 1, 2, 8, 9, 11, (256), 10, 3 to 7. */
 uint32_t gate_bench_deliver(uint32_t n, uint32_t number, uint16_t *count, const uint8_t *bytes, size_t bytes_len, double *reals,
                             size_t reals_len, double *imags, size_t imags_len);
 
@@ -126,9 +129,9 @@ enum gate_bench_field {
  * places are lent. */
 uint32_t gate_bench_read_record(const uint8_t *bytes, size_t bytes_len, uint32_t *fields, size_t fields_len, double *numbers,
                             size_t numbers_len);
-/* The record's bytes, into the first places of out: answers how many (24 to 94). 8 if there are fewer than six fields or eight
- * numbers, or the code is not 1 to 12, or the number is above 65535, or the target, SWAP's second qubit, an outcome or a reset
- * above 255; and then 12 if out is too short. */
+/* The record's bytes, into the first places of out: answers how many (24 to 94), and below 24 with a refusal. 8 if there are
+ * fewer than six fields or eight numbers, or the code is not 1 to 12, or the number is above 65535, or the target, SWAP's
+ * second qubit, an outcome or a reset above 255; and then 12 if out is too short. */
 uint32_t gate_bench_write_record(const uint32_t *fields, size_t fields_len, const double *numbers, size_t numbers_len,
                             uint8_t *out, size_t out_len);
 

@@ -43,12 +43,12 @@ static void arrive(struct state *s, const char *what, const struct message *m) {
     printf("%-34s ", what);
     if (answer == GATE_BENCH_TAKEN)
         printf("TAKEN");
-    else if (answer == GATE_BENCH_AGAIN)
-        printf("AGAIN");
-    else if (answer >= GATE_BENCH_VALUE_0)
-        printf("VALUE %" PRIu32, answer - GATE_BENCH_VALUE_0);
-    else
+    else if (answer < GATE_BENCH_AGAIN)
         printf("REFUSED %" PRIu32, answer);
+    else if (answer < GATE_BENCH_VALUE_0)
+        printf("AGAIN");
+    else
+        printf("VALUE %" PRIu32, answer - GATE_BENCH_VALUE_0);
     printf(" COUNT %u\n", (unsigned)s->session.count);
 }
 

@@ -2,12 +2,12 @@
 use Prim.Native.Nat.{ℕ}
 use mathlib.Core.Path.{_≡_, refl, sym, ap, ap₂, _∙_}
 use Rattle.book.proofs.Agree.{refusalOf, refusal-back}
-use Rattle.book.specs.Answers.{taken, value, refused, Replied, again, said, Buffers}
+use Rattle.book.specs.Answers.{taken, value, refused, Replied, again, said, replies, Buffers}
 use Rattle.book.specs.Sessions as Book
-use Rattle.sessions.specs.Deliveries.{replies, Delivers}
+use Rattle.book.specs.declared.Reply.{Reply}
+use Rattle.book.specs.declared.Reply.the-variants.{Taken, Value, Again, Refused}
+use Rattle.sessions.specs.Deliveries.{resumed, Delivers}
 use Rattle.sessions.specs.declared.Delivered.{Delivered}
-use Rattle.sessions.specs.declared.Reply.{Reply}
-use Rattle.sessions.specs.declared.Reply.the-variants.{Taken, Value, Again, Refused}
 use Rattle.sessions.specs.declared.Session.{Session}
 
 abbrev replyOf : Replied → Reply
@@ -23,7 +23,7 @@ reply-back Again = refl
 reply-back (Refused r) = ap Refused (refusal-back r)
 
 abbrev sessionOf : Book.Session → Session
-sessionOf s = record { n = s .n; number = s .number; count = s .count }
+sessionOf s = resumed (s .n) (s .number) (s .count)
 
 pub delivers-agree : {d : Book.Delivery} {a a′ : Delivered} {b b′ : Buffers} → Delivers d a b → Delivers d a′ b′ → (a ≡ a′) × (b ≡ b′)
 delivers-agree {a = a} {a′ = a′} x y = (

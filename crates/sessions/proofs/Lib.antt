@@ -1,6 +1,4 @@
--- Refused: a gate that is refused changes nothing. Steps: a delivery case by case, in the code's terms. Agree: the contract allows one result.
--- ExactlyOnce: demand 3 of the code.
-pub mod Refused
+-- Steps: a delivery, by what was read and where it stands. ExactlyOnce: demand 3 of the code. Agree: a contract allows one result.
 pub mod Steps
-pub mod Agree
 pub mod ExactlyOnce
+pub mod Agree

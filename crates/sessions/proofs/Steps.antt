@@ -1,119 +1,108 @@
--- A delivery, test by test, in the code's terms: each test that applies, with those before it passed, gives the answer. Assumes nothing.
-use Prim.Native.Nat.{ℕ, _^_, _≤_, _<_}
-use mathlib.Core.Bool.{true, false}
+-- A delivery in the code's terms: by what was read, and by where the record stands. 1 and 2 stand before all else, and the gate's own tests begin with
+-- them, so the next record's gate decides by itself. Assumes nothing.
+use Prim.Native.Nat.{ℕ, zero, suc}
+use mathlib.Core.Bool.{false}
 use mathlib.Core.List.{List}
 use mathlib.Core.Option.{Option, some, none}
 use mathlib.Core.Path.{_≡_, refl, sym, ap, _∙_, subst}
 use native.Mathlib.Omega.{arith}
-use borrow.Author.Tests.{lt-ltb, le-ltb, eq-eqb, ne-eqb}
-use lib.ListN.{length}
-use Rattle.book.proofs.Refusals.{too-small, too-large, right-size}
-use Rattle.book.specs.Answers.{says, Replied, Buffers, Outcome, Does}
-use Rattle.book.specs.Kernels.{mostQubits, badLength}
+use Rattle.book.proofs.Calls.{refused-keeps, sized-right, sized-wrong}
+use Rattle.book.proofs.Refusals.{sizes-numbered}
+use Rattle.book.specs.Answers.{numberOf, value, refused, says, Replied, said, replies, Test, first, Buffers, Outcome, accepts, Does}
+use Rattle.book.specs.Calls.{callOf, act}
+use Rattle.book.specs.Kernels.{sizeTests}
 use Rattle.book.specs.Records.{readRecord, readOf}
 use Rattle.book.specs.Sessions as Book
-use Rattle.book.specs.Sessions.{act, accepts, kept, counted, takeRecord, takeRead, deliver}
+use Rattle.book.specs.Sessions.{kept, counted, standing, takeRecord, takeRead, takeSized, deliver}
 use Rattle.book.specs.declared.Answer.{Answer}
 use Rattle.book.specs.declared.Answer.the-variants.{Taken, Value, Refused}
-use Rattle.book.specs.declared.Read.{Read}
 use Rattle.book.specs.declared.Read.the-variants.{Record as Found, Refused as Unread}
 use Rattle.book.specs.declared.Record.{Record}
 use Rattle.book.specs.declared.Refusal.{Refusal}
-use Rattle.book.specs.declared.Refusal.the-variants.{Size, Length, Session as Other, Early, Full, Record as NoRecord}
-use Rattle.sessions.specs.Deliveries.{meant, replies, told, countedOf, Delivers}
+use Rattle.book.specs.declared.Reply.{Reply}
+use Rattle.book.specs.declared.Reply.the-variants.{Refused as Refused′}
+use Rattle.judging.proofs.Judged.{passed}
+use Rattle.judging.specs.Judging.{verdict, Judges}
+use Rattle.sessions.specs.Deliveries.{meant, told, countedOf, behindSize, unsized, Delivers}
 use Rattle.sessions.specs.declared.Delivered.{Delivered}
-use Rattle.sessions.specs.declared.Reply.{Reply}
-use Rattle.sessions.specs.declared.Reply.the-variants.{Again, Refused as Refused′}
 use Rattle.sessions.specs.declared.Session.{Session}
-use Rattle.sessions.proofs.Refused.{act-refused}
 
--- an answer that keeps session and buffers
-keeps : {s : Session} {b : Buffers} {x : Replied} {d : Book.Delivery} {a : Delivered} (reply : Reply) → a ≡ told s reply → replies reply ≡ x
-    → d ≡ kept (meant s) b x → Delivers d a b
-keeps {s} {b} {x} {d} {a} reply e p q = rw (e, q) (record { next = refl; reply = p; count = refl; leaves = refl })
+-- ---- which of the two was read
 
--- ---- a record that was read
+pub found-is : {r : Record} (o : Option Record) → readOf o ≡ Found r → o ≡ some r
+found-is (some q) e = cc
+found-is none e = let z : _≡_ {A = ℕ} 0 1 = cc in absurd (omega arith)
 
-module _ (s : Session) (b : Buffers) (r : Record) {a : Delivered} where
-  pub other : (r .session ≡ s .number → ⊥) → a ≡ told s (Refused′ Other) → Delivers (takeRecord (meant s) b r) a b
-  other h e = keeps (Refused′ Other) e refl (rw (ne-eqb (r .session) (s .number) h))
+pub unread-is : {q : Refusal} (o : Option Record) → readOf o ≡ Unread q → o ≡ none
+unread-is (some r) e = let z : _≡_ {A = ℕ} 0 1 = cc in absurd (omega arith)
+unread-is none e = refl
 
-  module _ (mine : r .session ≡ s .number) where
-    pub full : r .number ≡ 65535 → a ≡ told s (Refused′ Full) → Delivers (takeRecord (meant s) b r) a b
-    full h e = keeps (Refused′ Full) e refl (rw (eq-eqb (r .session) (s .number) mine, eq-eqb (r .number) 65535 h))
+-- ---- the definition's delivery, in three cases
 
-    module _ (room : r .number ≡ 65535 → ⊥) where
-      pub repeated : r .number < s .count → a ≡ told s Again → Delivers (takeRecord (meant s) b r) a b
-      repeated h e =
-          keeps Again e refl (rw (eq-eqb (r .session) (s .number) mine, ne-eqb (r .number) 65535 room, lt-ltb (r .number) (s .count) h))
-
-      pub early : s .count ≤ r .number → s .count < r .number → a ≡ told s (Refused′ Early) → Delivers (takeRecord (meant s) b r) a b
-      early l h e =
-          keeps (Refused′ Early) e refl
-          (rw (eq-eqb (r .session) (s .number) mine, ne-eqb (r .number) 65535 room, le-ltb (r .number) (s .count) l, lt-ltb (s .count) (r .number) h))
-
-      -- the next number: what the gate does
-      pub next : s .count ≤ r .number → r .number ≤ s .count → {b′ : Buffers} {answer : Answer} → Does (act (s .n) (r .gate) b) answer b′
-          → a ≡ countedOf s answer → Delivers (takeRecord (meant s) b r) a b′
-      next l h {b′} {answer} d e =
-          subst (λ (x : Book.Delivery). Delivers x a b′)
-          (sym (rw (eq-eqb (r .session) (s .number) mine, ne-eqb (r .number) 65535 room, le-ltb (r .number) (s .count) l, le-ltb (s .count) (r .number) h)))
-          (by answer (act (s .n) (r .gate) b) (act-refused (s .n) (r .gate) b) d e)
-        where
-          by : (answer : Answer) (o : Outcome) → (accepts (o .says) ≡ false → o .left ≡ b) → Does o answer b′ → a ≡ countedOf s answer
-              → Delivers (counted (meant s) b o) a b′
-          by Taken o k d e = rw (e, ← d .answers) (record { next = refl; reply = refl; count = refl; leaves = d .leaves })
-          by (Value v) o k d e = rw (e, ← d .answers) (record { next = refl; reply = refl; count = refl; leaves = d .leaves })
-          by (Refused q) o k d e =
-              let same : b′ ≡ b = d .leaves ∙ k (ap accepts (sym (d .answers))) in
-              rw (e, ← d .answers) (record { next = refl; reply = refl; count = refl; leaves = same })
-
--- ---- a delivery
-
-module _ (s : Session) (b : Buffers) (bytes : List ℕ) {a : Delivered} where
-  pub small : s .n < 1 → a ≡ told s (Refused′ Size) → Delivers (deliver (meant s) b bytes) a b
+module _ (s : Book.Session) (b : Buffers) (bytes : List ℕ) where
+  -- what is not run
+  stays : (x : Replied) → takeRead s b bytes (readRecord bytes) ≡ kept s b x → deliver s b bytes ≡ unsized s b x
   unfolding deliver
-  small h e = keeps (Refused′ Size) e refl (rw (too-small mostQubits (s .n) h))
+  stays x e = by (first (sizeTests (s .n) b))
+    where
+      by : (k : ℕ) → takeSized s b bytes k ≡ kept s b (behindSize k x)
+      by zero = e
+      by (suc k) = refl
 
-  module _ (some-n : 1 ≤ s .n) where
-    pub large : 24 < s .n → a ≡ told s (Refused′ Size) → Delivers (deliver (meant s) b bytes) a b
+  pub unread : readRecord bytes ≡ none → deliver s b bytes ≡ unsized s b (said (refused 8))
+  unread e = stays (said (refused 8)) (ap (takeRead s b bytes) e)
+
+  module _ (r : Record) (e : readRecord bytes ≡ some r) where
+    pub answered : (x : Replied) → some x ≡ standing s r → deliver s b bytes ≡ unsized s b x
+    answered x f = stays x (ap (takeRead s b bytes) e ∙ ap (takeRecord s b bytes r) (sym f))
+
+    -- the next record: its gate decides, 1 and 2 too
+    pub goes : none ≡ standing s r → deliver s b bytes ≡ counted s b bytes (act (s .n) (r .gate) b)
     unfolding deliver
-    large h e = keeps (Refused′ Size) e refl (rw (too-large mostQubits (s .n) some-n h))
+    goes f = by (first (sizeTests (s .n) b)) refl
+      where
+        by : (k : ℕ) → first (sizeTests (s .n) b) ≡ k → takeSized s b bytes k ≡ counted s b bytes (act (s .n) (r .gate) b)
+        by zero z =
+            ap (takeRead s b bytes) e ∙ ap (takeRecord s b bytes r) (sym f)
+            ∙ ap (counted s b bytes) (sym (sized-right b (callOf (s .n) (r .gate) b) (sizeTests (s .n) b) (sizes-numbered (s .n) b) z))
+        by (suc k) z = sym (ap (counted s b bytes) (sized-wrong b (callOf (s .n) (r .gate) b) (sizeTests (s .n) b) z))
 
-    module _ (most : s .n ≤ 24) where
-      pub wrong-length : badLength (2 ^ s .n) b ≡ true → a ≡ told s (Refused′ Length) → Delivers (deliver (meant s) b bytes) a b
-      unfolding deliver
-      wrong-length h e = keeps (Refused′ Length) e refl (rw (right-size mostQubits (s .n) some-n most, h))
+-- ---- the code's answers
 
-      module _ (fits : badLength (2 ^ s .n) b ≡ false) where
-        -- 1 and 2 passed: what was read decides
-        pub reads : {b′ : Buffers} → Delivers (takeRead (meant s) b (readRecord bytes)) a b′ → Delivers (deliver (meant s) b bytes) a b′
-        unfolding deliver
-        reads {b′} d = rw (right-size mostQubits (s .n) some-n most, fits) d
+-- a verdict is no value
+pub never : {v : ℕ} {ts : List Test} {r : Answer} → Judges ts r → r ≡ Value v → ⊥
+never {v} {ts} j t = by (first ts) (ap says (sym t) ∙ j .is)
+  where
+    by : (k : ℕ) → value v ≡ verdict k → ⊥
+    by zero f = let z : _≡_ {A = ℕ} 0 1 = cc in omega arith
+    by (suc k) f = let z : _≡_ {A = ℕ} 0 1 = cc in omega arith
 
-        pub unread : {q : Refusal} {x : Read} → x ≡ Unread q → x ≡ readOf (readRecord bytes) → a ≡ told s (Refused′ NoRecord)
-            → Delivers (deliver (meant s) b bytes) a b
-        unread {q} {x} t h e = reads (by (readRecord bytes) h)
-          where
-            by : (o : Option Record) → x ≡ readOf o → Delivers (takeRead (meant s) b o) a b
-            by (some r) k = absurd (let z : _≡_ {A = ℕ} 0 1 = cc (t, k) in omega arith)
-            by none k = keeps (Refused′ NoRecord) e refl refl
+module _ (s : Session) (b : Buffers) {a : Delivered} where
+  module _ (x : Reply) {r : Answer} (j : Judges (sizeTests (s .n) b) r) where
+    -- 1 or 2 refused
+    pub small : {q : Refusal} → r ≡ Refused q → a ≡ told s (Refused′ q) → Delivers (unsized (meant s) b (replies x)) a b
+    small {q} t e = rw e (by (first (sizeTests (s .n) b)) (ap says (sym t) ∙ j .is))
+      where
+        by : (k : ℕ) → refused (numberOf q) ≡ verdict k → Delivers (kept (meant s) b (behindSize k (replies x))) (told s (Refused′ q)) b
+        by zero f = absurd (let z : _≡_ {A = ℕ} 0 1 = cc in omega arith)
+        by (suc k) f = record { next = refl; reply = ap said f; count = refl; leaves = refl }
 
-        pub found : {b′ : Buffers} {x : Read} (r : Record) → x ≡ Found r → x ≡ readOf (readRecord bytes) → Delivers (takeRecord (meant s) b r) a b′
-            → Delivers (deliver (meant s) b bytes) a b′
-        found {b′} {x} r t h d = reads (by (readRecord bytes) h)
-          where
-            by : (o : Option Record) → x ≡ readOf o → Delivers (takeRead (meant s) b o) a b′
-            by (some r′) k = let same : r ≡ r′ = cc (t, k) in subst (λ (y : Record). Delivers (takeRecord (meant s) b y) a b′) same d
-            by none k = absurd (let z : _≡_ {A = ℕ} 0 1 = cc (t, k) in omega arith)
+    -- neither did
+    pub fine : r ≡ Taken → a ≡ told s x → Delivers (unsized (meant s) b (replies x)) a b
+    fine t e =
+        rw e (subst (λ (k : ℕ). Delivers (kept (meant s) b (behindSize k (replies x))) (told s x) b) (sym (passed j t))
+        (record { next = refl; reply = refl; count = refl; leaves = refl }))
 
--- the code's two tests of lengths, against its own 2 ^ n
-module _ (size : ℕ) (b : Buffers) where
-  pub reals-wrong : (length (b .reals) ≡ size → ⊥) → badLength size b ≡ true
-  reals-wrong h = rw (ne-eqb (length (b .reals)) size h)
-
-  pub imags-wrong : length (b .reals) ≡ size → (length (b .imags) ≡ size → ⊥) → badLength size b ≡ true
-  imags-wrong e h = rw (eq-eqb (length (b .reals)) size e, ne-eqb (length (b .imags)) size h)
-
-  pub lengths-right : length (b .reals) ≡ size → length (b .imags) ≡ size → badLength size b ≡ false
-  lengths-right e f = rw (eq-eqb (length (b .reals)) size e, eq-eqb (length (b .imags)) size f)
+  -- the gate was run
+  pub ran : (bytes : List ℕ) (r : Record) {b′ : Buffers} {answer : Answer} → Does (act (s .n) (r .gate) b) answer b′
+      → a ≡ countedOf s answer → Delivers (counted (meant s) b bytes (act (s .n) (r .gate) b)) a b′
+  ran bytes r {b′} {answer} d e =
+      by answer (act (s .n) (r .gate) b) (refused-keeps b (callOf (s .n) (r .gate) b) (sizeTests (s .n) b)) d e
+    where
+      by : (answer : Answer) (o : Outcome) → (accepts (o .says) ≡ false → o .left ≡ b) → Does o answer b′ → a ≡ countedOf s answer
+          → Delivers (counted (meant s) b bytes o) a b′
+      by Taken o k d e = rw (e, ← d .answers) (record { next = refl; reply = refl; count = refl; leaves = d .leaves })
+      by (Value v) o k d e = rw (e, ← d .answers) (record { next = refl; reply = refl; count = refl; leaves = d .leaves })
+      by (Refused q) o k d e =
+          let same : b′ ≡ b = d .leaves ∙ k (ap accepts (sym (d .answers))) in
+          rw (e, ← d .answers) (record { next = refl; reply = refl; count = refl; leaves = same })

@@ -1,31 +1,25 @@
 // Sessions: each delivery takes the session and hands back the next one, with the answer. However often a record comes, it is run once.
 use act::act;
 use book::Answer;
-use book::Gate;
+use book::MOST_QUBITS;
 use book::Read;
-use book::Record;
 use book::Refusal;
+use book::Reply;
+use standing::Standing;
+use standing::stand;
 ghost use mathlib.Core.Path.{_≡_};
-ghost use Prim.Native.Nat.{_+_, _<_};
-ghost use Rattle.book.specs.Answers.{Does};
+ghost use Prim.Native.Nat.{_<_};
+ghost use Rattle.book.specs.Answers.{replies};
 ghost use Rattle.book.specs.Lent.{before, after};
-ghost use Rattle.book.specs.Sessions.{takeRecord, deliver};
+ghost use Rattle.book.specs.Sessions.{deliver};
 ghost use Rattle.book.specs.Sessions as Book;
-ghost use Rattle.sessions.specs.Deliveries.{meant, startedOf, told, raised, countedOf, Delivers};
+ghost use Rattle.sessions.specs.Deliveries.{meant, started, resumed, told, raised, countedOf, unsized, Delivers};
 
 // n qubits, the session's number, and the count of records taken.
 pub struct Session {
     pub n: u32,
     pub number: u32,
     pub count: u16,
-}
-
-// What a delivery says.
-pub enum Reply {
-    Taken,
-    Value(u8),
-    Again,
-    Refused(Refusal),
 }
 
 // A delivery hands back the next session, its reply, and the count after it.
@@ -41,15 +35,16 @@ pub enum Started {
     Refused(Refusal),
 }
 
-// n is 1 to 24 for sessions.
-const MOST_QUBITS: u32 = 24;
-
-// Record numbers are 0 to 65,534.
-const FULL: u16 = 65535;
-
 impl Session {
+    // The one place where a session is made: from what a caller kept of it.
+    pub fn resume(n: u32, number: u32, count: u16) -> Session
+        ensures { λ r. ⌜ r ≡ resumed n number count ⌝ }
+    {
+        Session { n, number, count }
+    }
+
     pub fn start(n: u32, number: u32) -> Started
-        ensures { λ r. ⌜ r ≡ startedOf (Book.start n number) ⌝ }
+        ensures { λ r. ⌜ r ≡ started (Book.start n number) ⌝ }
     {
         if n < 1 {
             return Started::Refused(Refusal::Size);
@@ -57,14 +52,10 @@ impl Session {
         if MOST_QUBITS < n {
             return Started::Refused(Refusal::Size);
         }
-        Started::Fresh(Session {
-            n,
-            number,
-            count: 0,
-        })
+        Started::Fresh(Session::resume(n, number, 0))
     }
 
-    // Nothing changes.
+    // An answer carries the count after it.
     fn kept(self, reply: Reply) -> Delivered
         ensures { λ r. ⌜ r ≡ told self reply ⌝ }
     {
@@ -76,28 +67,12 @@ impl Session {
         }
     }
 
-    fn again(self) -> Delivered
-        ensures { λ r. ⌜ r ≡ told self Reply.Again ⌝ }
-    {
-        self.kept(Reply::Again)
-    }
-
-    fn refused(self, refusal: Refusal) -> Delivered
-        ensures { λ r. ⌜ r ≡ told self (Reply.Refused refusal) ⌝ }
-    {
-        self.kept(Reply::Refused(refusal))
-    }
-
     // A gate that was taken raises the count.
     fn raised(self, reply: Reply) -> Delivered
         requires { ⌜ self .count < 65535 ⌝ }
         ensures { λ r. ⌜ r ≡ told (raised self) reply ⌝ }
     {
-        let next = Session {
-            n: self.n,
-            number: self.number,
-            count: self.count + 1,
-        };
+        let next = Session::resume(self.n, self.number, self.count + 1);
         next.kept(reply)
     }
 
@@ -109,61 +84,35 @@ impl Session {
         match answer {
             Answer::Taken => self.raised(Reply::Taken),
             Answer::Value(v) => self.raised(Reply::Value(v)),
-            Answer::Refused(refusal) => self.refused(refusal),
+            Answer::Refused(refusal) => self.kept(Reply::Refused(refusal)),
         }
     }
 
-    // The gate is run, whatever the count is.
-    fn run(self, gate: Gate, reals: &mut [f64], imags: &mut [f64]) -> Answer
-        ensures { λ r. ⌜ Does (Book.act (self .n) gate (before reals imags)) r (after reals imags) ⌝ }
+    // A record that is not run: 1 and 2 come before its reply.
+    fn passed(self, reply: Reply, reals: &[f64], imags: &[f64]) -> Delivered
+        ensures { λ r. ⌜ Delivers (unsized (meant self) (before reals imags) (replies reply)) r (before reals imags) ⌝ }
     {
-        act(self.n, gate, reals, imags)
+        match judging::size(reals, imags, self.n) {
+            Answer::Taken => self.kept(reply),
+            Answer::Value(_) => self.kept(reply),
+            Answer::Refused(wrong) => self.kept(Reply::Refused(wrong)),
+        }
     }
 
-    // 9, 11; then AGAIN, 10, and only the next number goes on to the gate.
-    fn take_record(self, it: Record, reals: &mut [f64], imags: &mut [f64]) -> Delivered
-        ensures { λ r. ⌜ Delivers (takeRecord (meant self) (before reals imags) it) r (after reals imags) ⌝ }
-    {
-        if it.session != self.number {
-            return self.refused(Refusal::Session);
-        }
-        let at = it.number;
-        if at == FULL {
-            return self.refused(Refusal::Full);
-        }
-        let count = self.count;
-        if at < count {
-            return self.again();
-        }
-        if count < at {
-            return self.refused(Refusal::Early);
-        }
-        let gate = it.gate;
-        let answer = self.run(gate, reals, imags);
-        self.counted(answer)
-    }
-
-    // 1, 2 and 8, and then what the record does.
+    // Only the next record goes on to its gate, whose own tests begin with 1 and 2: so a delivery is judged once.
     pub fn deliver(self, bytes: &[u8], reals: &mut [f64], imags: &mut [f64]) -> Delivered
         ensures { λ r. ⌜ Delivers (deliver (meant self) (before reals imags) (now (bytes .entry))) r (after reals imags) ⌝ }
     {
-        let n = self.n;
-        if n < 1 {
-            return self.refused(Refusal::Size);
-        }
-        if MOST_QUBITS < n {
-            return self.refused(Refusal::Size);
-        }
-        let size: usize = 1 << n;
-        if reals.len() != size {
-            return self.refused(Refusal::Length);
-        }
-        if imags.len() != size {
-            return self.refused(Refusal::Length);
-        }
         let Read::Record(it) = reader::read_record(bytes) else {
-            return self.refused(Refusal::Record);
+            return self.passed(Reply::Refused(Refusal::Record), reals, imags);
         };
-        self.take_record(it, reals, imags)
+        match stand(self.number, self.count, it) {
+            Standing::Next => {
+                let gate = it.gate;
+                let answer = act(self.n, gate, reals, imags);
+                self.counted(answer)
+            }
+            Standing::Answered(reply) => self.passed(reply, reals, imags),
+        }
     }
 }

@@ -17,12 +17,12 @@ const TRANSPOSE: u8 = 3;
 const PRODUCT: u8 = 4;
 const STATE_PRODUCT: u8 = 5;
 
-/// An answer as a byte: 0 taken, 32 + v a value.
+/// An answer as the file has it, in one byte: 0 taken, 32 + v a value.
 fn said(answer: Answer) -> u8 {
     match answer {
         Answer::Taken => 0,
         Answer::Value(v) => 32 + v,
-        Answer::Refused(refusal) => refusal as u8,
+        Answer::Refused(refusal) => refusal.number(),
     }
 }
 

@@ -1,32 +1,55 @@
-//! The archive's one number as an answer: 0 taken, 1 to 12 a refusal, 16 AGAIN, 32 + v a value.
+//! The archive's one number as an answer: 0 taken, 1 to 255 a refusal, 256 AGAIN, 768 + v a value.
 
-/// Why a call did nothing, in the order of the rule book's table; the number is the book's.
+/// Why a call did nothing, in the order of the rule book's table.
 #[derive(Clone, Copy, Debug, PartialEq, Eq)]
 pub enum Refusal {
     /// n is out of range.
-    Size = 1,
+    Size,
     /// A buffer is not of exactly the length that n asks.
-    Length = 2,
+    Length,
     /// Target, second qubit or a bit of the mask is n or more.
-    Qubit = 3,
+    Qubit,
     /// The target is a control.
-    Same = 4,
+    Same,
     /// More controls than this gate takes.
-    Form = 5,
+    Form,
     /// A supplied number is NaN or infinite, or outcome or reset is neither 0 nor 1.
-    Number = 6,
+    Number,
     /// The forced outcome's probability is NaN, infinite, zero or negative.
-    Chance = 7,
+    Chance,
     /// The bytes, or the numbers, are not a record.
-    Record = 8,
+    Record,
     /// The record's session is another.
-    Session = 9,
+    Session,
     /// The record's number is above the count.
-    Early = 10,
+    Early,
     /// The record's number is 65,535.
-    Full = 11,
+    Full,
     /// The writer's buffer is too short.
-    Room = 12,
+    Room,
+    /// A refusal that this version has no name for, with its number: the archive is a later one.
+    Unknown(u8),
+}
+
+impl Refusal {
+    /// The rule book's number.
+    pub fn number(self) -> u8 {
+        match self {
+            Refusal::Size => 1,
+            Refusal::Length => 2,
+            Refusal::Qubit => 3,
+            Refusal::Same => 4,
+            Refusal::Form => 5,
+            Refusal::Number => 6,
+            Refusal::Chance => 7,
+            Refusal::Record => 8,
+            Refusal::Session => 9,
+            Refusal::Early => 10,
+            Refusal::Full => 11,
+            Refusal::Room => 12,
+            Refusal::Unknown(number) => number,
+        }
+    }
 }
 
 /// What a kernel, a measurement or a matrix call answers.
@@ -49,13 +72,15 @@ pub enum Reply {
 }
 
 const TAKEN: u32 = 0;
-const AGAIN: u32 = 16;
-const VALUE: u32 = 32;
+const AGAIN: u32 = 256;
+const VALUE: u32 = 768;
 
+/// 1 to 255, by its name if it has one.
 pub(crate) fn refusal(number: u32) -> Option<Refusal> {
     use Refusal::*;
-    let all = [Size, Length, Qubit, Same, Form, Number, Chance, Record, Session, Early, Full, Room];
-    all.into_iter().find(|refusal| *refusal as u32 == number)
+    let number = u8::try_from(number).ok().filter(|number| *number != 0)?;
+    let named = [Size, Length, Qubit, Same, Form, Number, Chance, Record, Session, Early, Full, Room];
+    Some(named.into_iter().find(|refusal| refusal.number() == number).unwrap_or(Unknown(number)))
 }
 
 impl Answer {
@@ -70,13 +95,40 @@ impl Answer {
 
 impl Reply {
     pub(crate) fn of(number: u32) -> Reply {
-        if number == AGAIN {
+        // What lies between AGAIN and VALUE is kept for an AGAIN that tells more.
+        if (AGAIN..VALUE).contains(&number) {
             return Reply::Again;
         }
         match Answer::of(number) {
             Answer::Taken => Reply::Taken,
             Answer::Value(value) => Reply::Value(value),
             Answer::Refused(refusal) => Reply::Refused(refusal),
+        }
+    }
+}
+
+#[cfg(test)]
+mod tests {
+    use super::*;
+
+    #[test]
+    fn refusals_named_and_unknown() {
+        for number in 1..=255 {
+            let Reply::Refused(refusal) = Reply::of(u32::from(number)) else { panic!("{number} is a refusal") };
+            assert_eq!(refusal.number(), number);
+            assert_eq!(refusal == Refusal::Unknown(number), number > 12, "{refusal:?}");
+            assert_eq!(Answer::of(u32::from(number)), Answer::Refused(refusal));
+        }
+    }
+
+    #[test]
+    fn taken_again_and_values() {
+        assert_eq!((Answer::of(0), Reply::of(0)), (Answer::Taken, Reply::Taken));
+        assert_eq!(Reply::of(256), Reply::Again);
+        for value in 0..=255 {
+            let number = 768 + u32::from(value);
+            assert_eq!((Answer::of(number), Reply::of(number)), (Answer::Value(value), Reply::Value(value)));
+            assert_eq!(Reply::of(512 + u32::from(value)), Reply::Again);
         }
     }
 }

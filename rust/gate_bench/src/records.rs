@@ -30,6 +30,9 @@ pub struct Record {
 /// Bytes of the longest record, U's.
 pub const RECORD_MOST: usize = 94;
 
+/// Bytes of the shortest record, SWAP's. On writing a lower answer is a refusal, any other a size.
+const RECORD_LEAST: u32 = 24;
+
 const FIELDS: usize = 6;
 const NUMBERS: usize = 8;
 
@@ -99,7 +102,7 @@ pub fn write_record(record: &Record, out: &mut [u8]) -> Result<usize, Refusal> {
     let fields = [record.session, u32::from(record.number), code, u32::from(target), second, u32::from(reset)];
     let answer = ffi::write_record(&fields, &numbers, out);
     match refusal(answer) {
-        Some(refused) => Err(refused),
-        None => Ok(answer as usize),
+        Some(refused) if answer < RECORD_LEAST => Err(refused),
+        _ => Ok(answer as usize),
     }
 }

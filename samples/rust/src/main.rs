@@ -29,7 +29,7 @@ impl State {
             Reply::Taken => "TAKEN".to_string(),
             Reply::Again => "AGAIN".to_string(),
             Reply::Value(value) => format!("VALUE {value}"),
-            Reply::Refused(refusal) => format!("REFUSED {}", refusal as u32),
+            Reply::Refused(refusal) => format!("REFUSED {}", refusal.number()),
         };
         println!("{what:<34} {said} COUNT {}", self.session.count());
     }

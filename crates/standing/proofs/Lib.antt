@@ -1,0 +1,2 @@
+-- Steps: where a record stands, test by test.
+mod Steps

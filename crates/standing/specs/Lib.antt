@@ -1,0 +1,2 @@
+-- What a standing means.
+pub mod Stands
