@@ -15,7 +15,6 @@ use Rattle.book.specs.declared.Pair.{Pair}
 use Rattle.rules.specs.Rules.{quickOf, zUpper}
 use Rattle.fused_rules.specs.Uppers.{pUpper}
 use Rattle.fed.specs.declared.Fed.{Fed}
-use Rattle.fed.specs.declared.FedUpper.{FedUpper}
 use Rattle.fed.specs.declared.Rule.{Rule}
 use Rattle.fed.specs.declared.Rule.the-variants.{X, Y, H, Rx, Ry, Rz, U}
 use Rattle.fed.specs.declared.Upper.{Upper}
@@ -65,11 +64,24 @@ loopRule (suc (suc (suc (suc (suc zero))))) angle matrix = rzRule angle
 loopRule (suc (suc (suc (suc (suc (suc zero)))))) angle matrix = uRule matrix
 loopRule (suc (suc (suc (suc (suc (suc (suc k))))))) angle matrix = quickOf 4 angle
 
-abbrev pub putOf : Fed → Pair → Pair
-putOf f = loopRule (f .number) (f .angle) (f .matrix)
+abbrev pub putOf : Fed → Matrix → Pair → Pair
+putOf f = loopRule (f .number) (f .angle)
+
+-- the matrix of a rule is U's; the others look at none
+abbrev pub LooksAt : Rule → Matrix → Type 0
+LooksAt X m = Unit
+LooksAt Y m = Unit
+LooksAt H m = Unit
+LooksAt (Rx angle) m = Unit
+LooksAt (Ry angle) m = Unit
+LooksAt (Rz angle) m = Unit
+LooksAt (U angles) m = m ≡ uMatrix angles
+
+pub record Suits (rule : Rule) (m : Matrix) : Type 0 where
+  pub is : LooksAt rule m
 
 pub record Feeds (rule : Rule) (f : Fed) : Type 0 where
-  pub puts : putOf f ≡ ruleOf rule
+  pub puts : (m : Matrix) → Suits rule m → putOf f m ≡ ruleOf rule
 
 -- ---- the gates that leave s0 as it is
 
@@ -97,5 +109,5 @@ abbrev pub upperOf : ℕ → Angle → Amplitude → Amplitude
 upperOf zero angle = zUpper
 upperOf (suc k) angle = pUpper angle
 
-pub record FeedsUpper (upper : Upper) (f : FedUpper) : Type 0 where
+pub record FeedsUpper (upper : Upper) (f : Fed) : Type 0 where
   pub puts : loopUpper (f .number) (f .angle) ≡ upperRule upper

@@ -15,7 +15,7 @@ use rules::z_upper;
 ghost use mathlib.Core.Path.{_≡_};
 ghost use Rattle.book.specs.Gates.{angleOf, finiteTests};
 ghost use Rattle.judging.specs.Judging.{Judges};
-ghost use Rattle.fed.specs.Named.{ruleOf, mostOf, ownOf, putOf, Feeds, upperMost, upperOwn, upperOf, FeedsUpper};
+ghost use Rattle.fed.specs.Named.{mostOf, ownOf, putOf, Feeds, Suits, upperMost, upperOwn, upperOf, FeedsUpper};
 
 // The gates that change both places of a pair.
 pub enum Rule {
@@ -89,92 +89,67 @@ pub fn own_of_upper(upper: Upper) -> Answer
     }
 }
 
-// What a loop over pairs is fed: a number for the rule, those that need no F first, and the rule's angle, or U's matrix, made once.
+// What a loop is fed: a number for the gate, those that need no F first, and its angle. A gate that takes none is fed one that it does not look at.
 pub struct Fed {
     pub number: u32,
     pub angle: Angle,
-    pub matrix: Matrix,
 }
 
-// A rule that takes no angle, or no matrix, is fed one that it does not look at.
-pub fn feed(rule: Rule) -> Fed
-    ensures { λ r. ⌜ Feeds rule r ⌝ }
+fn without(number: u32) -> Fed
+    ensures { λ r. ⌜ r .number ≡ number ⌝ }
 {
-    let angle = Angle {
-        cosine: 1.0,
-        sine: 0.0,
-    };
-    let zero = Amplitude { re: 0.0, im: 0.0 };
-    let matrix = Matrix { entries: [zero; 4] };
-    match rule {
-        Rule::X => Fed {
-            number: 0,
-            angle,
-            matrix,
-        },
-        Rule::Y => Fed {
-            number: 1,
-            angle,
-            matrix,
-        },
-        Rule::H => Fed {
-            number: 2,
-            angle,
-            matrix,
-        },
-        Rule::Rx(angle) => Fed {
-            number: 3,
-            angle,
-            matrix,
-        },
-        Rule::Ry(angle) => Fed {
-            number: 4,
-            angle,
-            matrix,
-        },
-        Rule::Rz(angle) => Fed {
-            number: 5,
-            angle,
-            matrix,
-        },
-        Rule::U(angles) => Fed {
-            number: 6,
-            angle,
-            matrix: u_matrix(angles),
+    Fed {
+        number,
+        angle: Angle {
+            cosine: 1.0,
+            sine: 0.0,
         },
     }
 }
 
+pub fn feed(rule: Rule) -> Fed
+    ensures { λ r. ⌜ Feeds rule r ⌝ }
+{
+    match rule {
+        Rule::X => without(0),
+        Rule::Y => without(1),
+        Rule::H => without(2),
+        Rule::Rx(angle) => Fed { number: 3, angle },
+        Rule::Ry(angle) => Fed { number: 4, angle },
+        Rule::Rz(angle) => Fed { number: 5, angle },
+        Rule::U(_) => without(6),
+    }
+}
+
+// U's matrix, made once; no other rule looks at one.
+pub fn matrix(rule: Rule) -> Matrix
+    ensures { λ r. ⌜ Suits rule r ⌝ }
+{
+    if let Rule::U(angles) = rule {
+        return u_matrix(angles);
+    }
+    let zero = Amplitude { re: 0.0, im: 0.0 };
+    Matrix { entries: [zero; 4] }
+}
+
 // The rule put to a pair.
-pub fn put(fed: Fed, p: Pair) -> Pair
-    ensures { λ r. ⌜ r ≡ putOf fed p ⌝ }
+pub fn put(fed: Fed, matrix: Matrix, p: Pair) -> Pair
+    ensures { λ r. ⌜ r ≡ putOf fed matrix p ⌝ }
 {
     let number = fed.number;
     match number {
         5 => rz_rule(fed.angle, p),
-        6 => u_rule(fed.matrix, p),
+        6 => u_rule(matrix, p),
         _ => put_quick(number, fed.angle, p),
     }
 }
 
-// What a loop over upper places is fed: a number for the gate, and its angle.
-pub struct FedUpper {
-    pub number: u32,
-    pub angle: Angle,
-}
-
-pub fn feed_upper(upper: Upper) -> FedUpper
+pub fn feed_upper(upper: Upper) -> Fed
     ensures { λ r. ⌜ FeedsUpper upper r ⌝ }
 {
     match upper {
-        Upper::Z => FedUpper {
-            number: 0,
-            angle: Angle {
-                cosine: 1.0,
-                sine: 0.0,
-            },
-        },
-        Upper::P(angle) => FedUpper { number: 1, angle },
+        Upper::Z => without(0),
+        Upper::P(angle) => Fed { number: 1, angle },
     }
 }
 

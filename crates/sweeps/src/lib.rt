@@ -2,7 +2,6 @@
 use book::Answer;
 use book::Controls;
 use book::Noise;
-use fed::Fed;
 use fed::Rule;
 use fed::feed;
 use forms::by_runs;
@@ -12,7 +11,7 @@ ghost use Rattle.book.specs.Answers.{Does};
 ghost use Rattle.book.specs.Calls.{act};
 ghost use Rattle.book.specs.Lent.{before, after, here};
 ghost use Rattle.book.specs.declared.Gate.the-variants.{Swap, BitFlip};
-ghost use Rattle.fed.specs.Named.{pairGate, putOf};
+ghost use Rattle.fed.specs.Named.{pairGate, ruleOf};
 ghost use Rattle.pairs.specs.Pairs.{Keyed, Swept};
 
 // The last number of a rule that needs no F.
@@ -26,19 +25,20 @@ fn sweep(
     fixed: usize,
     back0: usize,
     back1: usize,
-    fed: Fed,
+    rule: Rule,
 )
     requires { ⌜ Keyed n fixed back0 back1 (here reals imags) ⌝ }
-    ensures { λ _. ⌜ Swept (putOf fed) n fixed back0 back1 (before reals imags) (after reals imags) ⌝ }
+    ensures { λ _. ⌜ Swept (ruleOf rule) n fixed back0 back1 (before reals imags) (after reals imags) ⌝ }
 {
     let size: usize = 1 << n;
+    let fed = feed(rule);
     let number = fed.number;
     if QUICK < number {
-        by_keys(reals, imags, n, fixed, back0, back1, fed);
+        by_keys(reals, imags, n, fixed, back0, back1, rule);
         return;
     }
     if fixed + 1 == size {
-        by_keys(reals, imags, n, fixed, back0, back1, fed);
+        by_keys(reals, imags, n, fixed, back0, back1, rule);
         return;
     }
     let angle = fed.angle;
@@ -61,7 +61,7 @@ pub fn on_pairs(
     if let Answer::Taken = answer {
         let bit: usize = 1 << target;
         let fixed = controls.ones as usize + bit;
-        sweep(reals, imags, n, fixed, bit, 0, feed(rule));
+        sweep(reals, imags, n, fixed, bit, 0, rule);
     }
     answer
 }
@@ -78,7 +78,7 @@ fn exchange(reals: &mut [f64], imags: &mut [f64], n: u32, low: u32, high: u32) -
         }
         let bit0: usize = 1 << low;
         let bit1: usize = 1 << high;
-        sweep(reals, imags, n, bit0 + bit1, bit1, bit0, feed(Rule::X));
+        sweep(reals, imags, n, bit0 + bit1, bit1, bit0, Rule::X);
     }
     answer
 }
@@ -102,7 +102,7 @@ pub fn flip_bit(reals: &mut [f64], imags: &mut [f64], n: u32, target: u32, noise
     if let Answer::Taken = answer {
         if noise.draw <= noise.prob {
             let bit: usize = 1 << target;
-            sweep(reals, imags, n, bit, bit, 0, feed(Rule::X));
+            sweep(reals, imags, n, bit, bit, 0, Rule::X);
             return Answer::Value(1);
         }
         return Answer::Value(0);

@@ -8,6 +8,7 @@ feed-upper-spec =
     tie.close
     (tie.spec
     (λ c. search needs)
+    (λ c κs. search needs)
     (λ c. search needs)
     (λ c. search needs)
     (λ c. record { puts = rw (c .before .upper .given .1) }))

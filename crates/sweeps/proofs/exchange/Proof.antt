@@ -15,9 +15,8 @@ judged c = record { order = start c .pre; is = c .free-seat .ensures }
 returns-2 : tie.Need-returns-2
 returns-2 c =
     let swept = c .before .before .before .before in
-    let at = swept .before .before .before .before in
-    S.swap-swept (judged (at .before .before .before)) (at .before .enum-told .given .1) (at .if1 .left)
-    (rw (swept .before .feed .ensures .puts) at (swept .sweep .ensures))
+    let at = swept .before .before .before in
+    S.swap-swept (judged (at .before .before .before)) (at .before .enum-told .given .1) (at .if1 .left) (swept .sweep .ensures)
 
 pub exchange-spec : {M : Type 1} → statement M
 exchange-spec =
@@ -31,8 +30,7 @@ exchange-spec =
     (λ c. omega (arith, start (c .before .before .before) .pre, S.swap-seated (judged (c .before .before .before)) (c .before .enum-told .given .1)))
     (λ c. omega (arith, S.swap-seated (judged (c .before .before .before)) (c .before .enum-told .given .1)))
     (λ c. let at = c .before .before in omega (arith, S.swap-small (judged (at .before .before .before)) (at .before .enum-told .given .1)))
-    (λ c κs. search needs)
-    (λ c κs. let at = c .before .before .before in S.swap-asks (judged (at .before .before .before)) (at .before .enum-told .given .1) (at .if1 .left))
+    (λ c κs. let at = c .before .before in S.swap-asks (judged (at .before .before .before)) (at .before .enum-told .given .1) (at .if1 .left))
     (λ c. search needs)
     (λ c. search needs)
     returns-2

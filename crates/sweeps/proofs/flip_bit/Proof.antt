@@ -15,9 +15,9 @@ judged c = F.flip-judged (c .before .before .before .free-seat .ensures) (c .bef
 returns : tie.Need-returns
 returns c =
     let swept = c .before .before .before .before in
-    let ran = swept .before .before .before .before in
+    let ran = swept .before .before .before in
     let told = ran .before .before in
-    F.flip-swept (judged (told .before .before)) (told .enum-told .given .1) (ran .if1 .taken) (rw (swept .before .feed .ensures .puts) at (swept .sweep .ensures))
+    F.flip-swept (judged (told .before .before)) (told .enum-told .given .1) (ran .if1 .taken) (swept .sweep .ensures)
 
 pub flip-bit-spec : {M : Type 1} → statement M
 flip-bit-spec =
@@ -29,8 +29,7 @@ flip-bit-spec =
     (λ c κs. search needs)
     (λ c. search needs)
     (λ c. let told = c .before .before in omega (arith, F.flip-seated (judged (told .before .before)) (told .enum-told .given .1)))
-    (λ c κs. search needs)
-    (λ c κs. let told = c .before .before .before .before .before in F.flip-asks (judged (told .before .before)) (told .enum-told .given .1))
+    (λ c κs. let told = c .before .before .before .before in F.flip-asks (judged (told .before .before)) (told .enum-told .given .1))
     (λ c. search needs)
     (λ c. search needs)
     returns

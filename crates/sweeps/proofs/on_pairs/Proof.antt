@@ -20,8 +20,8 @@ judged c =
 returns : tie.Need-returns
 returns c =
     let swept = c .before .before .before .before in
-    let told = swept .before .before .before .before .before in
-    G.gate-swept (judged (told .before .before)) (told .enum-told .given .1) (rw (swept .before .feed .ensures .puts) at (swept .sweep .ensures))
+    let told = swept .before .before .before .before in
+    G.gate-swept (judged (told .before .before)) (told .enum-told .given .1) (swept .sweep .ensures)
 
 pub on-pairs-spec : {M : Type 1} → statement M
 on-pairs-spec =
@@ -35,8 +35,7 @@ on-pairs-spec =
     (λ c. omega (arith, G.allowed (judged (c .before .before)) (c .enum-told .given .1)))
     (λ c. search needs)
     (λ c. omega (arith, G.gate-small (judged (c .before .before .before)) (c .before .enum-told .given .1)))
-    (λ c κs. search needs)
-    (λ c κs. let told = c .before .before .before .before in G.gate-asks (judged (told .before .before)) (told .enum-told .given .1))
+    (λ c κs. let told = c .before .before .before in G.gate-asks (judged (told .before .before)) (told .enum-told .given .1))
     (λ c. search needs)
     (λ c. search needs)
     returns

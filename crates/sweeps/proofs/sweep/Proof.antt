@@ -10,14 +10,14 @@ returns-3 : tie.Need-returns-3
 returns-3 c =
     let ran = c .before .before .before .before in
     let at = ran .before .before .before .before .before in
-    let fed = at .before .before .before .args .fed in
-    rw (sym (quick-rule (fed .number) (fed .angle) (fed .matrix) (omega (arith, at .if1 .left)))) (ran .by-runs .ensures)
+    rw (sym (quick-rule (at .before .feed .ensures) (omega (arith, at .if1 .left)))) (ran .by-runs .ensures)
 
 pub sweep-spec : {M : Type 1} → statement M
 sweep-spec =
     tie.close
     (tie.spec
     (λ c. search needs)
+    (λ c κs. search needs)
     (λ c κs. search needs)
     (λ c. search needs)
     (λ c. search needs)
