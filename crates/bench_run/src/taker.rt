@@ -7,7 +7,7 @@ use crate::gather::gather;
 use crate::output::Output;
 use crate::output::print;
 use book::Refusal;
-use sessions::Reply;
+use book::Reply;
 use sessions::Session;
 
 // What is known between two bytes: the session, the next delivery's index, the frame that is gathered, where the output ends, and whether more is to be

@@ -2,8 +2,8 @@
 use crate::case::Head;
 use crate::case::SLOT;
 use crate::case::Verdict;
+use book::Reply;
 use libc::STDIN_FILENO;
-use sessions::Reply;
 use sessions::Session;
 use sessions::Started;
 
