@@ -4,6 +4,7 @@ ghost use Prim.Native.Nat.{_+_, _≤_};
 ghost use lib.ListN.{length};
 ghost use Rattle.book.specs.Answers.{replies};
 ghost use Rattle.book.specs.Sessions.{Session};
+ghost use Rattle.io.specs.Counts.{Counts};
 ghost use Rattle.stream.specs.Lines.{saying, adding, deliveryLine, amplitudeLine, endLine, cutLine, badHeaderLine, Added, Line};
 use crate::words::add;
 use crate::words::add_bits;
@@ -69,7 +70,8 @@ pub fn amplitude_line(out: &mut [u8; 128], index: u64, re: f64, im: f64) -> usiz
 
 // Of the session with this count.
 pub fn end_line(out: &mut [u8; 128], count: u16) -> usize
-    ensures { λ r. ⌜ ((s : Session) → s .count ≡ count → Line (endLine s) (now (out .entry)) r (now (out .exit))) ⌝ }
+    ensures of { λ r. ⌜ ((s : Session) → s .count ≡ count → Line (endLine s) (now (out .entry)) r (now (out .exit))) ⌝ }
+    ensures counts { λ r. ⌜ Counts r (now (out .exit)) ⌝ }
 {
     let behind_end = add(out, 0, b"END ");
     let behind_count = add_number(out, behind_end, count as u64);

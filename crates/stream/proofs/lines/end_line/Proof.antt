@@ -7,11 +7,12 @@ use Rattle.stream.proofs.lines.end_line.Statement.{statement}
 use Rattle.stream.proofs.lines.end_line.Tie as tie
 
 returns : tie.Need-returns
-returns c s same =
+returns c =
     let number = c .before .before .before in
     let words = number .before .before in
     let room : 25 ≤ length (words .before .before .before .args .out .now) = search needs in
-    rw same (line room (then (words .add .ensures) (then (number .add-number .ensures) (c .add2 .ensures))))
+    let put = line room (then (words .add .ensures) (then (number .add-number .ensures) (c .add2 .ensures))) in
+    (λ s same. rw same put, put .counts)
 
 pub end-line-spec : {M : Type 1} → statement M
 end-line-spec =
