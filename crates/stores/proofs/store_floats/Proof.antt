@@ -22,30 +22,6 @@ abbrev μ-loop : tie.MeasureT-loop
 loop-holds : tie.Need-loop-holds Inv-loop μ-loop
 loop-holds c = let a = c .before .before .args in (search needs, search needs, floats-all (a .numbers .now) nan (a .at) (a .out .now))
 
-mul-x : tie.Need-mul-x Inv-loop μ-loop
-mul-x c = search needs
-
-shared-slice-read-x : tie.Need-shared-slice-read-x Inv-loop μ-loop
-shared-slice-read-x c = search needs
-
-mul-store-number : tie.Need-mul-store-number Inv-loop μ-loop
-mul-store-number c = search needs
-
-add-store-number : tie.Need-add-store-number Inv-loop μ-loop
-add-store-number c = search needs
-
-bits-of-requires : tie.Need-bits-of-requires Inv-loop μ-loop
-bits-of-requires c κs = search needs
-
-store-number-requires : tie.Need-store-number-requires Inv-loop μ-loop
-store-number-requires c κs = search needs
-
-add-i : tie.Need-add-i Inv-loop μ-loop
-add-i c = search needs
-
-loop-less : tie.Need-loop-less Inv-loop μ-loop
-loop-less c = search needs
-
 loop-again : tie.Need-loop-again Inv-loop μ-loop
 loop-again c =
     let a = c .before .before .before .before .before .before .before .before .before .before .args in
@@ -53,9 +29,6 @@ loop-again c =
     let stored = c .before .before .store-number in
     let same = ap (λ (n : ℕ). store (l .out) (a .at + 8 * l .i) (bytes 8 n)) (c .before .before .before .bits-of .ensures) in
     (search needs, search needs, floats-step (a .numbers .now) nan (a .at) (l .out) (stored .last .0) (l .i) (omega arith) (stored .ensures ∙ same) ∙ l .inv .2)
-
-same-length : tie.Need-same-length Inv-loop μ-loop
-same-length c = search needs
 
 returns : tie.Need-returns Inv-loop μ-loop
 returns c =
@@ -70,14 +43,14 @@ store-floats-spec =
     Inv-loop
     μ-loop
     loop-holds
-    mul-x
-    shared-slice-read-x
-    mul-store-number
-    add-store-number
-    bits-of-requires
-    store-number-requires
-    add-i
-    loop-less
+    (λ c. search needs)
+    (λ c. search needs)
+    (λ c. search needs)
+    (λ c. search needs)
+    (λ c κs. search needs)
+    (λ c κs. search needs)
+    (λ c. search needs)
+    (λ c. search needs)
     loop-again
-    same-length
+    (λ c. search needs)
     returns)

@@ -11,18 +11,6 @@ use borrow.Author.Needs.{needs}
 use Rattle.stores.proofs.store_start.Statement.{statement}
 use Rattle.stores.proofs.store_start.Tie as tie
 
-store-number-requires : tie.Need-store-number-requires
-store-number-requires c κs = search needs
-
-add-store-number : tie.Need-add-store-number
-add-store-number c = search needs
-
-store-number-requires-2 : tie.Need-store-number-requires-2
-store-number-requires-2 c κs = search needs
-
-same-length : tie.Need-same-length
-same-length c = search needs
-
 returns : tie.Need-returns
 returns c =
     let a = c .before .before .before .before .before .before .before .before .before .args in
@@ -34,4 +22,4 @@ returns c =
 pub store-start-spec : {M : Type 1} → statement M
 store-start-spec =
     tie.close
-    (tie.spec store-number-requires add-store-number store-number-requires-2 same-length returns)
+    (tie.spec (λ c κs. search needs) (λ c. search needs) (λ c κs. search needs) (λ c. search needs) returns)
