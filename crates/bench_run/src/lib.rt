@@ -9,6 +9,7 @@ mod state;
 mod taker;
 
 use frames::Header;
+use frames::MOST_IN_PROGRAM;
 use gather::cut_short;
 use gather::empty;
 use output::Output;
@@ -19,9 +20,7 @@ use state::print_state;
 use taker::Taker;
 use taker::take_chunk;
 
-// n is 1 to 11 in the program.
-const MOST_QUBITS: u32 = 11;
-
+// The places of the most qubits in the program.
 const MOST_PLACES: usize = 2048;
 
 // Only this line.
@@ -136,7 +135,7 @@ fn run_bench(input: i32, n: u32, number: u32) {
     let Started::Fresh(session) = started else {
         return;
     };
-    if n <= MOST_QUBITS {
+    if n <= MOST_IN_PROGRAM as u32 {
         run_places(input, session, 1 << n);
     }
 }

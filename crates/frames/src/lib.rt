@@ -30,7 +30,7 @@ const HEADER_LENGTH: u64 = 5;
 const HEADER_BYTES: usize = 8;
 
 // n is 1 to 11 in the program.
-const MOST_IN_PROGRAM: u8 = 11;
+pub const MOST_IN_PROGRAM: u8 = 11;
 
 const FRAME: u8 = 0x20;
 

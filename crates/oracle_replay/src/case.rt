@@ -43,7 +43,7 @@ const STATE_PRODUCT: u8 = 5;
 pub(crate) const SLOT: u8 = 94;
 
 // No sampled state has more qubits.
-const MOST_QUBITS: u8 = 6;
+const MOST_SAMPLED: u8 = 6;
 
 // No operand has more places.
 const MOST_PLACES: usize = 64;
@@ -86,7 +86,7 @@ fn with_places(head: Head, first: usize, places: usize) -> Verdict {
 
 fn sized_case(head: Head) -> Verdict {
     let n = head.n;
-    if MOST_QUBITS < n {
+    if MOST_SAMPLED < n {
         return Verdict::Unread;
     }
     let side: usize = 1 << n;

@@ -46,18 +46,18 @@ fn coded(code: u64, target: u8) {
     number(target as u64);
 }
 
-fn masked(code: u64, target: u8, controls: Controls) {
+fn tell_mask(code: u64, target: u8, controls: Controls) {
     coded(code, target);
     number(controls.ones as u64);
 }
 
 fn angled(code: u64, target: u8, controls: Controls, angle: Angle) {
-    masked(code, target, controls);
+    tell_mask(code, target, controls);
     floats(&[angle.cosine, angle.sine]);
 }
 
 fn eight(target: u8, controls: Controls, a: Angles) {
-    masked(9, target, controls);
+    tell_mask(9, target, controls);
     let numbers = [a.ct, a.st, a.cl, a.sl, a.cpl, a.spl, a.cp, a.sp];
     floats(&numbers);
 }
@@ -80,10 +80,10 @@ fn noise(target: u8, n: Noise) {
 
 fn tell_gate(gate: Gate) {
     match gate {
-        Gate::H(t, c) => masked(1, t, c),
-        Gate::X(t, c) => masked(2, t, c),
-        Gate::Y(t, c) => masked(3, t, c),
-        Gate::Z(t, c) => masked(4, t, c),
+        Gate::H(t, c) => tell_mask(1, t, c),
+        Gate::X(t, c) => tell_mask(2, t, c),
+        Gate::Y(t, c) => tell_mask(3, t, c),
+        Gate::Z(t, c) => tell_mask(4, t, c),
         Gate::P(t, c, a) => angled(5, t, c, a),
         Gate::Rx(t, c, a) => angled(6, t, c, a),
         Gate::Ry(t, c, a) => angled(7, t, c, a),
