@@ -34,7 +34,8 @@ quick-else (suc (suc (suc (suc (suc (suc zero)))))) angle matrix a b = absurd (b
 quick-else (suc (suc (suc (suc (suc (suc (suc k))))))) angle matrix a b = refl
 
 -- what a loop is fed for a rule, from the number and the rule that it was made for
-pub fed-by : {rule rule′ : Rule} {f : Fed} {k : ℕ} → f .number ≡ k → rule ≡ rule′ → ((m : Matrix) → Suits rule′ m → loopRule k (f .angle) m ≡ ruleOf rule′) → Feeds rule f
+pub fed-by : {rule rule′ : Rule} {f : Fed} {k : ℕ} → f .number ≡ k → rule ≡ rule′ → ((m : Matrix) → Suits rule′ m → loopRule k (f .angle) m ≡ ruleOf rule′)
+    → Feeds rule f
 fed-by {f = f} e q h =
     record {
       puts = λ m s.

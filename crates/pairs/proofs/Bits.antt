@@ -2,7 +2,8 @@
 use Prim.Native.Nat.{ℕ, suc, _+_, _-_, _*_, _/_, _%_, _^_, _≤_, _<_, max}
 use mathlib.Core.Logic.{⊎-elim}
 use mathlib.Core.Path.{_≡_, sym, ap, ap₂, _∙_}
-use native.Mathlib.Nat.{pow-suc, mod-lt, add-div-right, zero-lt-suc, mul-div-cancel, div-eq-of-lt, zero-div, zero-add, add-mul, one-mul, le-div-iff-mul-le, mul-le-mul-right}
+use native.Mathlib.Nat.{pow-suc, mod-lt, add-div-right, zero-lt-suc, mul-div-cancel, div-eq-of-lt}
+use native.Mathlib.Nat.{zero-div, zero-add, add-mul, one-mul, le-div-iff-mul-le, mul-le-mul-right}
 use native.Mathlib.Decide.{decLt}
 use native.Mathlib.Numerals.{add-one}
 use native.Mathlib.Omega.{arith}
@@ -44,7 +45,8 @@ next-least i =
     omega (arith, or-add-and (n / 2) (f / 2)))
     (λ o.
     let h : (n + 1) / 2 ≡ n / 2 + 1 = omega arith in
-    let s′ : bitOr (n + 1) f ≡ bitOr (n / 2 + 1) (f / 2) * 2 + max ((n + 1) % 2) (f % 2) = s ∙ ap (λ (x : ℕ). bitOr x (f / 2) * 2 + max ((n + 1) % 2) (f % 2)) h in
+    let s′ : bitOr (n + 1) f ≡ bitOr (n / 2 + 1) (f / 2) * 2 + max ((n + 1) % 2) (f % 2) = s
+    ∙ ap (λ (x : ℕ). bitOr x (f / 2) * 2 + max ((n + 1) % 2) (f % 2)) h in
     omega (arith, ih (f / 2) (j / 2) en ej (omega arith)))
     (Book.zero-or-one (n % 2) (mod-lt n (zero-lt-suc 1)))) i
 

@@ -77,7 +77,8 @@ module _ (t : ℕ) (c : Controls) (free : bit t (c .ones) ≡ 0) where
     each-place i l =
         by-bool (chosen c i)
         (λ h. ⊎-elim (λ z. at-lower h z) (λ o. at-upper h o) (halves t i))
-        (λ h. p .others i (λ w k x y z. not-both h (⊎-elim (λ e. key-lower i w k e) (λ e. ap (chosen c) (e ∙ sub-zero w) ∙ key-upper w k) z)) ∙ sym (placed-neither rule t c s i h))
+        (λ h. p .others i (λ w k x y z. not-both h (⊎-elim (λ e. key-lower i w k e) (λ e. ap (chosen c) (e ∙ sub-zero w) ∙ key-upper w k) z))
+        ∙ sym (placed-neither rule t c s i h))
       where
         not-both : {b : Bool} → b ≡ false → b ≡ true → ⊥
         not-both e f = let z : _≡_ {A = ℕ} 0 1 = (cc) in omega arith

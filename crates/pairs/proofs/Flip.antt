@@ -51,7 +51,8 @@ module _ {n t : ℕ} {noise : Noise} {b : Buffers} {r : Answer} (j : Judged n t 
 
     -- ran or not
     module _ (ran : Bool) (h : Ieee.le (noise .draw) (noise .prob) ≡ ran) where
-      flips : {r′ : Answer} {b′ : Buffers} → says r′ ≡ value (cond ran 1 0) → b′ ≡ cond ran (onPairs xRule n t uncontrolled b) b → Does (flipOf n t noise b) r′ b′
+      flips : {r′ : Answer} {b′ : Buffers} → says r′ ≡ value (cond ran 1 0) → b′ ≡ cond ran (onPairs xRule n t uncontrolled b) b
+          → Does (flipOf n t noise b) r′ b′
       flips p q =
           works (sizeTests n b) b (bitFlipCall n t noise b) (j .is) e (p ∙ ap (λ (x : Bool). value (cond x 1 0)) (sym h))
           (q ∙ ap (λ (x : Bool). cond x (onPairs xRule n t uncontrolled b) b) (sym h))

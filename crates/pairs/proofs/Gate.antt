@@ -37,7 +37,8 @@ seats-numbered : (most n t : ℕ) (c : Controls) (b : Buffers) → T (numbered (
 unfolding sizeTests seatTests
 seats-numbered most n t c b = tt
 
-pub gate-judged : {most n t : ℕ} {c : Controls} {b : Buffers} {own : List Test} {s o r : Answer} → Judges (sizeTests n b ++ seatTests most n t c) s → Judges own o
+pub gate-judged : {most n t : ℕ} {c : Controls} {b : Buffers} {own : List Test} {s o r : Answer} → Judges (sizeTests n b ++ seatTests most n t c) s
+    → Judges own o
     → r ≡ firstOf s o → Judged most own n t c b r
 gate-judged {most} {n} {t} {c} {b} {own} j k e = record { is = own-judged (sizeTests n b) (seatTests most n t c) own (seats-numbered most n t c b) j k e }
 

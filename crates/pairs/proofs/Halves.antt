@@ -32,7 +32,8 @@ module _ (f : ℕ → Amplitude → Amplitude) where
   turn-idle a b s idle = record { inside = λ i x y. sym (idle i x y); before = λ i x. refl; after = λ i x. refl }
 
   -- a function that makes the same of each place
-  pub turn-same : (g : ℕ → Amplitude → Amplitude) {a b : ℕ} {s s′ : State} → ((i : ℕ) → i < b → (x : Amplitude) → f i x ≡ g i x) → Mapped f a b s s′ → Mapped g a b s s′
+  pub turn-same : (g : ℕ → Amplitude → Amplitude) {a b : ℕ} {s s′ : State} → ((i : ℕ) → i < b → (x : Amplitude) → f i x ≡ g i x) → Mapped f a b s s′
+      → Mapped g a b s s′
   turn-same g {s = s} same p = record { inside = λ i x y. p .inside i x y ∙ same i y (s i); before = p .before; after = p .after }
 
   -- from a to b, then on to c
@@ -83,12 +84,14 @@ module _ (f : ℕ → Amplitude → Amplitude) (b₀ : Buffers) (equal : length 
       }
 
   -- on to k, past places that f leaves as they are
-  pub walk-skips : {j : ℕ} {b : Buffers} (k : ℕ) → Walked f b₀ j b → j ≤ k → k ≤ length (b₀ .reals) → ((i : ℕ) → j ≤ i → i < k → (x : Amplitude) → f i x ≡ x) → Walked f b₀ k b
+  pub walk-skips : {j : ℕ} {b : Buffers} (k : ℕ) → Walked f b₀ j b → j ≤ k → k ≤ length (b₀ .reals) → ((i : ℕ) → j ≤ i → i < k → (x : Amplitude) → f i x ≡ x)
+      → Walked f b₀ k b
   walk-skips {j} {b} k u l m idle =
       record { same = u .same; within = m; turned = turn-join f (omega arith) l (u .turned) (turn-idle f j k (at b) (λ i x y. idle i x y (at b i))) }
 
   -- two places at once
-  pub walk-two-steps : (j : ℕ) (b : Buffers) (x y z w : Float) → Walked f b₀ j b → j + 1 < length (b .reals) → amplitude x y ≡ f j (at b j) → amplitude z w ≡ f (j + 1) (at b (j + 1))
+  pub walk-two-steps : (j : ℕ) (b : Buffers) (x y z w : Float) → Walked f b₀ j b → j + 1 < length (b .reals) → amplitude x y ≡ f j (at b j)
+      → amplitude z w ≡ f (j + 1) (at b (j + 1))
       → Walked f b₀ (j + 2) (buffers (set (set (b .reals) j x) (j + 1) z) (set (set (b .imags) j y) (j + 1) w))
   walk-two-steps j b x y z w u l e g =
       let b₁ : Buffers = buffers (set (b .reals) j x) (set (b .imags) j y) in
@@ -157,7 +160,8 @@ module _ (g : ℕ → Amplitude → Amplitude) (n t : ℕ) (qubit : t < n) (b₀
 
     -- the upper half was lent and came back turned
     pub blocks-step : (reals : length (b .reals) ≡ 2 ^ n) (imags : length (b .imags) ≡ 2 ^ n) (p : Buffers)
-        → Mapped (λ j. g (base + 2 ^ t + j)) 0 (length (lent (base + 2 ^ t) (2 ^ t) b .reals)) (at (lent (base + 2 ^ t) (2 ^ t) b)) (at p) × SameSize (lent (base + 2 ^ t) (2 ^ t) b) p
+        → Mapped (λ j. g (base + 2 ^ t + j)) 0 (length (lent (base + 2 ^ t) (2 ^ t) b .reals)) (at (lent (base + 2 ^ t) (2 ^ t) b)) (at p) × SameSize
+        (lent (base + 2 ^ t) (2 ^ t) b) p
         → Blocks g n t b₀ (base + 2 ^ t + 2 ^ t) (returned (base + 2 ^ t) (2 ^ t) b p)
     unfolding onUpper upBy
     blocks-step reals imags p (tu, same) =
@@ -192,7 +196,8 @@ module _ (g : ℕ → Amplitude → Amplitude) (n t : ℕ) (qubit : t < n) (b₀
         Mapped (λ j. g (base + x + j)) 0 (length (lent (base + x) k b .reals)) (at (lent (base + x) k b)) (at p) × SameSize (lent (base + x) k b) p
         → Blocks g n t b₀ (base + x + x) (returned (base + x) k b p)
 
-    pub blocks-steps : (bit : ℕ) → bit ≡ 2 ^ t → length (b .reals) ≡ 2 ^ n → length (b .imags) ≡ 2 ^ n → (p : Buffers) → Step bit (base + bit + bit - (base + bit)) p
+    pub blocks-steps : (bit : ℕ) → bit ≡ 2 ^ t → length (b .reals) ≡ 2 ^ n → length (b .imags) ≡ 2 ^ n → (p : Buffers)
+        → Step bit (base + bit + bit - (base + bit)) p
     blocks-steps bit e reals imags p =
         let k : base + bit + bit - (base + bit) ≡ 2 ^ t = omega arith in
         subst (λ (x : ℕ). Step x (base + bit + bit - (base + bit)) p) (sym e) (subst (λ (x : ℕ). Step (2 ^ t) x p) (sym k) (blocks-step reals imags p))
@@ -208,7 +213,8 @@ blocks-end g n t {b} base u l =
     }
 
 -- ---- a gate that leaves s0 is its s1 on the upper halves, where the controls choose
-module _ (rule : Pair → Pair) (up : Amplitude → Amplitude) (keeps : (p : Pair) → rule p ≡ pair (p .s0) (up (p .s1))) (t : ℕ) (c : Controls) (s : State) (i : ℕ) where
+module _ (rule : Pair → Pair) (up : Amplitude → Amplitude) (keeps : (p : Pair) → rule p ≡ pair (p .s0) (up (p .s1))) (t : ℕ) (c : Controls) (s : State)
+    (i : ℕ) where
   by-bit : (x : Bool) (k : ℕ) → placeBy (half x k) rule s (2 ^ t) i ≡ upBy k (λ z. cond x (up z) z) (s i)
   unfolding upBy
   by-bit false zero = refl

@@ -34,7 +34,8 @@ module _ (rule : Pair → Pair) (Key : ℕ → Type 0) (s0 s1 : ℕ → ℕ) whe
             | no h ↦ q .lower w k (omega arith) y ∙ ap (λ (z : Pair). rule z .s0) (read w k (omega arith))
           ];
           upper = λ w k x y. elim (decLt w b) [
-            | yes h ↦ q .others (s1 w) (λ v l m n z. ⊎-elim (λ e. apart .cross v w l k (sym e)) (λ e. omega (arith, apart .upper w v k l e)) z) ∙ p .upper w k x h
+            | yes h ↦ q .others (s1 w) (λ v l m n z. ⊎-elim (λ e. apart .cross v w l k (sym e)) (λ e. omega (arith, apart .upper w v k l e)) z)
+                ∙ p .upper w k x h
             | no h ↦ q .upper w k (omega arith) y ∙ ap (λ (z : Pair). rule z .s1) (read w k (omega arith))
           ];
           others = λ i f. q .others i (λ w k x y. f w k (omega arith) y) ∙ p .others i (λ w k x y. f w k x (omega arith));

@@ -80,11 +80,16 @@ pub written-two : (b : Buffers) (s0 s1 k : ℕ) (p q : Pair) → FourPlaces b s0
     WrittenTwo s0 s1 k p q (at b) (at b′) × SameSize b b′
 written-two b s0 s1 k p q ok = (
   record {
-    lower = ap₂ amplitude (four-low (b .reals) s0 s1 k _ _ _ _ nan (ok .order) (ok .some) (ok .apart) (ok .reals)) (four-low (b .imags) s0 s1 k _ _ _ _ nan (ok .order) (ok .some) (ok .apart) (ok .imags));
-    upper = ap₂ amplitude (four-high (b .reals) s0 s1 k _ _ _ _ nan (ok .order) (ok .some) (ok .apart) (ok .reals)) (four-high (b .imags) s0 s1 k _ _ _ _ nan (ok .order) (ok .some) (ok .apart) (ok .imags));
-    lower-next = ap₂ amplitude (four-low-next (b .reals) s0 s1 k _ _ _ _ nan (ok .order) (ok .some) (ok .apart) (ok .reals)) (four-low-next (b .imags) s0 s1 k _ _ _ _ nan (ok .order) (ok .some) (ok .apart) (ok .imags));
-    upper-next = ap₂ amplitude (four-high-next (b .reals) s0 s1 k _ _ _ _ nan (ok .order) (ok .some) (ok .apart) (ok .reals)) (four-high-next (b .imags) s0 s1 k _ _ _ _ nan (ok .order) (ok .some) (ok .apart) (ok .imags));
-    others = λ i e f g h. ap₂ amplitude (four-other (b .reals) s0 s1 k _ _ _ _ nan (ok .order) (ok .some) (ok .apart) (ok .reals) i e f g h) (four-other (b .imags) s0 s1 k _ _ _ _ nan (ok .order) (ok .some) (ok .apart) (ok .imags) i e f g h);
+    lower = ap₂ amplitude (four-low (b .reals) s0 s1 k _ _ _ _ nan (ok .order) (ok .some) (ok .apart) (ok .reals))
+        (four-low (b .imags) s0 s1 k _ _ _ _ nan (ok .order) (ok .some) (ok .apart) (ok .imags));
+    upper = ap₂ amplitude (four-high (b .reals) s0 s1 k _ _ _ _ nan (ok .order) (ok .some) (ok .apart) (ok .reals))
+        (four-high (b .imags) s0 s1 k _ _ _ _ nan (ok .order) (ok .some) (ok .apart) (ok .imags));
+    lower-next = ap₂ amplitude (four-low-next (b .reals) s0 s1 k _ _ _ _ nan (ok .order) (ok .some) (ok .apart) (ok .reals))
+        (four-low-next (b .imags) s0 s1 k _ _ _ _ nan (ok .order) (ok .some) (ok .apart) (ok .imags));
+    upper-next = ap₂ amplitude (four-high-next (b .reals) s0 s1 k _ _ _ _ nan (ok .order) (ok .some) (ok .apart) (ok .reals))
+        (four-high-next (b .imags) s0 s1 k _ _ _ _ nan (ok .order) (ok .some) (ok .apart) (ok .imags));
+    others = λ i e f g h. ap₂ amplitude (four-other (b .reals) s0 s1 k _ _ _ _ nan (ok .order) (ok .some) (ok .apart) (ok .reals) i e f g h)
+        (four-other (b .imags) s0 s1 k _ _ _ _ nan (ok .order) (ok .some) (ok .apart) (ok .imags) i e f g h);
   },
   record { reals = simp length-set; imags = simp length-set },
 )
@@ -105,7 +110,12 @@ module _ {run d stride : ℕ} {b₀ : Buffers} (ok : Run run d stride b₀) wher
 
   pub walk-starts : {rule : Pair → Pair} (step : ℕ) → Walk rule run d stride step b₀ 0 b₀
   walk-starts {rule} step =
-      record { same = record { reals = refl; imags = refl }; on = zero-mod step; done = nothing rule (Spaced stride run) (λ i. i) (λ i. i + d) 0 0 (at b₀) (λ w k x y. omega arith) }
+      record {
+        same = record { reals = refl; imags = refl };
+        on = zero-mod step;
+        done = nothing rule (Spaced stride run) (λ i. i) (λ i. i + d) 0 0 (at b₀)
+            (λ w k x y. omega arith);
+      }
 
   pub walk-ends : {rule : Pair → Pair} {step i : ℕ} {b : Buffers} → Walk rule run d stride step b₀ i b → run ≤ i → RunDone rule run d stride b₀ b
   walk-ends {b = b} u l =
@@ -144,8 +154,10 @@ module _ {run d stride : ℕ} {b₀ : Buffers} (ok : Run run d stride b₀) wher
     pub one-steps : {b′ : Buffers} → PairPut rule i (i + d) (at b) (at b′) × SameSize b b′ → Walk rule run d stride stride b₀ (i + stride) b′
     one-steps {b′} st =
         walk-on u (st .1)
-        (join rule (Spaced stride run) (λ j. j) (λ j. j + d) aparts (omega arith) (omega (arith, ok .some)) (one rule (Spaced stride run) (λ j. j) (λ j. j + d) (u .on, l) (st .0))
-        (nothing rule (Spaced stride run) (λ j. j) (λ j. j + d) (i + 1) (i + stride) (at b′) (λ w k x y. omega (arith, gap stride i w (u .on) (k .0) (let h : i < w = omega arith in h)))))
+        (join rule (Spaced stride run) (λ j. j) (λ j. j + d) aparts (omega arith) (omega (arith, ok .some))
+        (one rule (Spaced stride run) (λ j. j) (λ j. j + d) (u .on, l) (st .0))
+        (nothing rule (Spaced stride run) (λ j. j) (λ j. j + d) (i + 1) (i + stride) (at b′)
+        (λ w k x y. omega (arith, gap stride i w (u .on) (k .0) (let h : i < w = omega arith in h)))))
 
   -- two pairs at a turn
   module _ {rule : Pair → Pair} {i : ℕ} {b : Buffers} (u : Walk rule run d stride (stride * 2) b₀ i b) (l : i < run) where
@@ -203,7 +215,12 @@ module _ {run d stride : ℕ} {b₀ : Buffers} (ok : Run run d stride b₀) wher
           | yes e ↦ inl e
           | no e ↦ elim (ℕ-discrete w (i + stride)) [
             | yes f ↦ inr f
-            | no f ↦ absurd (omega (arith, gap stride i w on (k .0) (let h : i < w = omega arith in h), beyond w k (omega (arith, f, gap stride i w on (k .0) (let h : i < w = omega arith in h))) y))
+            | no f ↦ absurd (omega (
+              arith,
+              gap stride i w on (k .0) (let h : i < w = omega arith in h),
+              beyond w k
+                  (omega (arith, f, gap stride i w on (k .0) (let h : i < w = omega arith in h))) y,
+            ))
           ]
         ]
       where
@@ -224,12 +241,16 @@ module _ {run d stride : ℕ} {b₀ : Buffers} (ok : Run run d stride b₀) wher
         both =
             record {
               lower = λ x k a c. ⊎-elim
-                  (λ e. subst (λ (j : ℕ). at b′ j ≡ rule (pair (at b j) (at b (j + d))) .s0) (sym e) (wr .0 .lower ∙ ap (λ (z : Pair). z .s0) (ev ∙ ap rule ep)))
-                  (λ e. subst (λ (j : ℕ). at b′ j ≡ rule (pair (at b j) (at b (j + d))) .s0) (sym e) (wr .0 .lower-next ∙ ap (λ (z : Pair). z .s0) (ew ∙ ap rule eq)))
+                  (λ e. subst (λ (j : ℕ). at b′ j ≡ rule (pair (at b j) (at b (j + d))) .s0) (sym e)
+                  (wr .0 .lower ∙ ap (λ (z : Pair). z .s0) (ev ∙ ap rule ep)))
+                  (λ e. subst (λ (j : ℕ). at b′ j ≡ rule (pair (at b j) (at b (j + d))) .s0) (sym e)
+                  (wr .0 .lower-next ∙ ap (λ (z : Pair). z .s0) (ew ∙ ap rule eq)))
                   (either x k a c);
               upper = λ x k a c. ⊎-elim
-                  (λ e. subst (λ (j : ℕ). at b′ (j + d) ≡ rule (pair (at b j) (at b (j + d))) .s1) (sym e) (wr .0 .upper ∙ ap (λ (z : Pair). z .s1) (ev ∙ ap rule ep)))
-                  (λ e. subst (λ (j : ℕ). at b′ (j + d) ≡ rule (pair (at b j) (at b (j + d))) .s1) (sym e) (ap (at b′) far ∙ wr .0 .upper-next ∙ ap (λ (z : Pair). z .s1) (ew ∙ ap rule eq)))
+                  (λ e. subst (λ (j : ℕ). at b′ (j + d) ≡ rule (pair (at b j) (at b (j + d))) .s1) (sym e)
+                  (wr .0 .upper ∙ ap (λ (z : Pair). z .s1) (ev ∙ ap rule ep)))
+                  (λ e. subst (λ (j : ℕ). at b′ (j + d) ≡ rule (pair (at b j) (at b (j + d))) .s1) (sym e)
+                  (ap (at b′) far ∙ wr .0 .upper-next ∙ ap (λ (z : Pair). z .s1) (ew ∙ ap rule eq)))
                   (either x k a c);
               others = λ x f. wr .0 .others x
                   (λ e. f i (on, l) (omega arith) (omega (arith, ok .some)) (inl e))

@@ -109,9 +109,11 @@ module _ {n wide run stride : ℕ} (c : Cut n wide run stride) where
   run-last i s = gap stride i run (s .0) (halved stride run run-twos) (s .1)
 
 -- ---- a part that was lent from a on and came back with the rule put to its pairs
-module _ (rule : Pair → Pair) (Key : ℕ → Type 0) (d a k run : ℕ) (b p : Buffers) (fr : a + k ≤ length (b .reals)) (fi : a + k ≤ length (b .imags)) (same : SameSize (lent a k b) p)
+module _ (rule : Pair → Pair) (Key : ℕ → Type 0) (d a k run : ℕ) (b p : Buffers) (fr : a + k ≤ length (b .reals)) (fi : a + k ≤ length (b .imags))
+    (same : SameSize (lent a k b) p)
     (room : (i : ℕ) → Key i → i + d < k) where
-  lift : Paired rule Key (λ i. i) (λ i. i + d) 0 run (at (lent a k b)) (at p) → Paired rule Key (λ i. a + i) (λ i. a + i + d) 0 run (at b) (at (returned a k b p))
+  lift : Paired rule Key (λ i. i) (λ i. i + d) 0 run (at (lent a k b)) (at p) → Paired rule Key (λ i. a + i) (λ i. a + i + d) 0 run (at b)
+      (at (returned a k b p))
   lift q =
       record {
         lower = λ j key x y. back-inside a k b fr fi p same j (omega (arith, room j key)) ∙ q .lower j key x y ∙ ap (λ (z : Pair). rule z .s0) (read j key);
@@ -136,7 +138,8 @@ module _ (rule : Pair → Pair) (Key : ℕ → Type 0) (d a k run : ℕ) (b p : 
           let e : a + m ≡ i = omega arith in
           subst (λ (z : ℕ). at (returned a k b p) z ≡ at b z) e
           (back-inside a k b fr fi p same m (omega arith)
-          ∙ q .others m (λ j key u v w. f j key u v (⊎-elim (λ h. inl (let g : i ≡ a + j = omega arith in g)) (λ h. inr (let g : i ≡ a + j + d = omega arith in g)) w))
+          ∙ q .others m (λ j key u v w. f j key u v
+          (⊎-elim (λ h. inl (let g : i ≡ a + j = omega arith in g)) (λ h. inr (let g : i ≡ a + j + d = omega arith in g)) w))
           ∙ lent-place a k b fr fi m (omega arith))
 
 -- the length of the lent part, and its places: those of the key u + low + j are those of j in the part
@@ -190,7 +193,8 @@ module _ {n wide run stride back0 back1 : ℕ} {b₀ : Buffers} (ok : Runs n wid
         here = ok .cut .wide-is;
         on = and-self (ok .cut .y);
         under = λ v k l. absurd (omega (arith, key-ge (wide + (stride - 1)) v k));
-        done = nothing rule (Has (wide + (stride - 1))) (λ v. v - back0) (λ v. v - back1) 0 wide (at b₀) (λ v k x y. omega (arith, key-ge (wide + (stride - 1)) v k));
+        done = nothing rule (Has (wide + (stride - 1))) (λ v. v - back0) (λ v. v - back1) 0 wide (at b₀)
+            (λ v k x y. omega (arith, key-ge (wide + (stride - 1)) v k));
       }
 
   module _ {rule : Pair → Pair} {u : ℕ} {b : Buffers} (t : Turns rule n wide run stride back0 back1 b₀ u b) where
@@ -198,13 +202,15 @@ module _ {n wide run stride back0 back1 : ℕ} {b₀ : Buffers} (ok : Runs n wid
     own : (j : ℕ) → Spaced stride run j → Has (wide + (stride - 1)) (u + (stride - 1) + j)
     own j s =
         let e : t .turn * 2 ^ (t .cut .r) + (stride - 1 + j) ≡ u + (stride - 1) + j = omega (arith, t .here) in
-        subst (Has (wide + (stride - 1))) e (run-on (t .cut) (t .turn) j (t .on) (omega (arith, t .cut .run-is, run-last (t .cut) j s, stride-pos (t .cut))) (s .0))
+        subst (Has (wide + (stride - 1))) e (run-on (t .cut) (t .turn) j (t .on) (omega (arith, t .cut .run-is, run-last (t .cut) j s, stride-pos (t .cut)))
+        (s .0))
 
     pub numbers : u < 2 ^ n → Numbers n run stride back0 back1 u b
     numbers l =
         let le : stride * 2 ≤ run = omega (arith, stride-le (t .cut), t .cut .run-is) in
         let first : u + (stride - 1) + 0 ≡ u + (stride - 1) = omega arith in
-        let k : Has (wide + (stride - 1)) (u + (stride - 1)) = subst (Has (wide + (stride - 1))) first (own 0 (zero-mod stride, omega (arith, le, stride-pos (t .cut)))) in
+        let k : Has (wide + (stride - 1)) (u + (stride - 1)) = subst (Has (wide + (stride - 1))) first
+        (own 0 (zero-mod stride, omega (arith, le, stride-pos (t .cut)))) in
         record {
           some = stride-pos (t .cut);
           low = le;

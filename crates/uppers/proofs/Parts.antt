@@ -3,7 +3,8 @@
 use Prim.Native.Nat.{ℕ, suc, _+_, _-_, _*_, _/_, _%_, _^_, _≤_, _<_}
 use mathlib.Core.Path.{_≡_, sym, ap, ap₂, _∙_, subst}
 use native.Mathlib.Decide.{ℕ-discrete, decLt}
-use native.Mathlib.Nat.{pow-suc, mod-lt, mod-eq-of-lt, add-mod-right, mul-comm, mul-assoc, mul-add-mod-self-right, add-mul, one-mul, lt-of-mul-lt-mul-right, mul-le-mul-right}
+use native.Mathlib.Nat.{pow-suc, mod-lt, mod-eq-of-lt, add-mod-right, mul-comm}
+use native.Mathlib.Nat.{mul-assoc, mul-add-mod-self-right, add-mul, one-mul, lt-of-mul-lt-mul-right, mul-le-mul-right}
 use native.Mathlib.Numerals.{add-one}
 use native.Mathlib.Omega.{arith}
 use borrow.Author.Tests.{eq-eqb, ne-eqb}
@@ -135,7 +136,16 @@ module _ (t fixed back : ℕ) (free : bit t fixed ≡ 0) (off : bit t back ≡ 0
 
     key-is : place + back ≡ (q * 2 + 1) * 2 ^ t + (j + under)
     key-is =
-        omega (arith, less-times q (above t back) (2 ^ suc t) reach, twice t q, twice t (above t back), parts t back off, add-mul (q * 2) 1 (2 ^ t), one-mul (2 ^ t))
+        omega (
+          arith,
+          less-times q (above t back) (2 ^ suc t) reach,
+          twice t q,
+          twice t (above t back),
+          parts t back off,
+          add-mul (q * 2) 1 (2 ^ t),
+          one-mul
+              (2 ^ t),
+        )
 
     inner-yes : Has low (j + under) → Has fixed (place + back)
     inner-yes h =

@@ -54,7 +54,8 @@ by-runs-spec =
     (λ c. search needs)
     (λ c. search needs)
     returns-2
-    (λ c κs. let at = c .before .before in let pre = at .before .before .before .before .before .pre in W.runs-near (pre .0) (pre .1) (at .before .if3 .taken) (at .if4 .taken))
+    (λ c κs. let at = c .before .before in let pre = at .before .before .before .before .before .pre in W.runs-near (pre .0) (pre .1)
+    (at .before .if3 .taken) (at .if4 .taken))
     (λ c. search needs)
     (λ c. search needs)
     returns-3

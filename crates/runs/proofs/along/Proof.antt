@@ -18,6 +18,10 @@ abbrev μ-loop : tie.MeasureT-loop
 abbrev start : tie.In-loop Inv-loop μ-loop → tie.Start Inv-loop μ-loop
 start c = c .before .before .before .before
 
+-- the turn that ends
+abbrev turn : tie.After-slice-known4 Inv-loop μ-loop → tie.In-loop Inv-loop μ-loop
+turn c = c .before .before .before .before .before .before .before .before .before .before .before
+
 near : (c : tie.In-loop Inv-loop μ-loop) → c .before .loop .i + start c .args .d < 2 ^ 24
 near c = omega (arith, start c .pre .small, one-room (start c .pre) (c .before .loop .inv) (c .loop-test .taken))
 
@@ -26,8 +30,11 @@ loop-again c =
     let wrote = c .before .before .before .before in
     let put = wrote .before .before .before in
     let turn = put .before .before .before .before in
-    one-steps (start turn .pre) (turn .before .loop .inv) (turn .loop-test .taken)
-    (stepped (quickOf (start turn .args .rule) (start turn .args .angle)) (put .before .read-pair .ensures) (put .put-quick .ensures) (wrote .write-pair .ensures .0), wrote .write-pair .ensures .1)
+    one-steps (start turn .pre) (turn .before .loop .inv) (turn .loop-test .taken) (
+      stepped (quickOf (start turn .args .rule) (start turn .args .angle)) (put .before .read-pair .ensures) (put .put-quick .ensures)
+          (wrote .write-pair .ensures .0),
+      wrote .write-pair .ensures .1,
+    )
 
 pub along-spec : {M : Type 1} → statement M
 along-spec =
@@ -41,8 +48,8 @@ along-spec =
     (λ c κs. search needs)
     (λ c. omega (arith, near (c .before .before .before .before .before .before)))
     (λ c κs. let turn = c .before .before .before .before .before .before in one-asks (start turn .pre) (turn .before .loop .inv) (turn .loop-test .taken))
-    (λ c. let turn = c .before .before .before .before .before .before .before .before .before .before .before in omega (arith, near turn, start turn .pre .narrow))
-    (λ c. let turn = c .before .before .before .before .before .before .before .before .before .before .before in omega (arith, start turn .pre .some, turn .loop-test .taken))
+    (λ c. omega (arith, near (turn c), start (turn c) .pre .narrow))
+    (λ c. omega (arith, start (turn c) .pre .some, turn c .loop-test .taken))
     loop-again
     (λ c. c .before .loop .inv .same .reals)
     (λ c. c .before .loop .inv .same .imags)

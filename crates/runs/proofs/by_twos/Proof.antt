@@ -18,6 +18,13 @@ abbrev μ-loop : tie.MeasureT-loop
 abbrev start : tie.In-loop Inv-loop μ-loop → tie.Start Inv-loop μ-loop
 start c = c .before .before .before .before
 
+-- the turn of a place within it, and the turn that ends
+abbrev written : tie.After-write-two-arg2 Inv-loop μ-loop → tie.In-loop Inv-loop μ-loop
+written c = c .before .before .before .before .before .before .before .before .before .before
+
+abbrev turn : tie.After-slice-known4 Inv-loop μ-loop → tie.In-loop Inv-loop μ-loop
+turn c = written (c .before .before .before .before .before)
+
 near : (c : tie.In-loop Inv-loop μ-loop) → c .before .loop .i + start c .args .stride + start c .args .d < 2 ^ 24
 near c = omega (arith, start c .pre .small, two-room-next (start c .pre) (c .before .loop .inv) (c .loop-test .taken))
 
@@ -45,11 +52,12 @@ by-twos-spec =
     (λ c κs. let turn = c .before .before .before .before .before in two-asks-next (start turn .pre) (turn .before .loop .inv) (turn .loop-test .taken))
     (λ c κs. search needs)
     (λ c κs. search needs)
-    (λ c. let turn = c .before .before .before .before .before .before .before .before .before .before in omega (arith, near turn, start turn .pre .narrow))
-    (λ c κs. let turn = c .before .before .before .before .before .before .before .before .before .before in two-asks-four (start turn .pre) (turn .before .loop .inv) (turn .loop-test .taken))
-    (λ c. let turn = c .before .before .before .before .before .before .before .before .before .before .before .before .before .before .before in omega (arith, near turn, start turn .pre .narrow))
-    (λ c. let turn = c .before .before .before .before .before .before .before .before .before .before .before .before .before .before .before in omega (arith, near turn, start turn .pre .narrow))
-    (λ c. let turn = c .before .before .before .before .before .before .before .before .before .before .before .before .before .before .before in omega (arith, start turn .pre .some, turn .loop-test .taken))
+    (λ c. omega (arith, near (written c), start (written c) .pre .narrow))
+    (λ c κs. let turn = c .before .before .before .before .before .before .before .before .before .before in two-asks-four (start turn .pre)
+    (turn .before .loop .inv) (turn .loop-test .taken))
+    (λ c. omega (arith, near (turn c), start (turn c) .pre .narrow))
+    (λ c. omega (arith, near (turn c), start (turn c) .pre .narrow))
+    (λ c. omega (arith, start (turn c) .pre .some, turn c .loop-test .taken))
     loop-again
     (λ c. c .before .loop .inv .same .reals)
     (λ c. c .before .loop .inv .same .imags)

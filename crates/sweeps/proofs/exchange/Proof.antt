@@ -9,7 +9,8 @@ use Rattle.sweeps.proofs.exchange.Tie as tie
 abbrev start : tie.After-free-seat → tie.Start
 start c = c .before .before .before .before .before
 
-judged : (c : tie.After-free-seat) → S.Judged (start c .args .n) (start c .args .low) (start c .args .high) (here (start c .args .reals) (start c .args .imags)) (c .free-seat .result)
+judged : (c : tie.After-free-seat) → S.Judged (start c .args .n) (start c .args .low) (start c .args .high)
+    (here (start c .args .reals) (start c .args .imags)) (c .free-seat .result)
 judged c = record { order = start c .pre; is = c .free-seat .ensures }
 
 returns-2 : tie.Need-returns-2

@@ -9,7 +9,8 @@ use Rattle.sweeps.proofs.flip_bit.Tie as tie
 abbrev start : tie.After-then → tie.Start
 start c = c .before .before .before .before .before .before .before .before
 
-judged : (c : tie.After-then) → F.Judged (start c .args .n) (start c .args .target) (start c .args .noise) (here (start c .args .reals) (start c .args .imags)) (c .then .result)
+judged : (c : tie.After-then) → F.Judged (start c .args .n) (start c .args .target) (start c .args .noise)
+    (here (start c .args .reals) (start c .args .imags)) (c .then .result)
 judged c = F.flip-judged (c .before .before .before .free-seat .ensures) (c .before .numbers .ensures) (c .then .ensures)
 
 returns : tie.Need-returns
