@@ -1,4 +1,5 @@
--- Any two results that a contract allows agree: what an answer says gives the answer back, since no two cases say the same. Once for every call. Assumes nothing.
+-- Any two results that a contract allows agree: what an answer says gives the answer back, since no two cases say the same. Once for every call.
+-- Assumes nothing.
 use Prim.Native.Nat.{ℕ, _-_}
 use mathlib.Core.List.{[], _∷_}
 use mathlib.Core.Path.{_≡_, refl, sym, ap, _∙_}

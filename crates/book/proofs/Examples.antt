@@ -40,5 +40,6 @@ right-hold (e ∷ es) w =
     (alike-same (e .gives) (e .paper) (and-l same (right es) w), right-hold es (and-r same (right es) w))
 
 pub all-twelve : Hold twelve
-unfolding twelve fused root first sizeTests seatTests swapped measured probability summed listed deliver tabulate held chosen choice placed onPairs le lt eq div add sub mul ones
+unfolding twelve fused root first sizeTests seatTests swapped measured probability summed listed deliver tabulate held chosen choice placed onPairs
+    le lt eq div add sub mul ones
 all-twelve = right-hold twelve tt

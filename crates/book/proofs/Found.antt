@@ -28,7 +28,8 @@ module _ {A : Type 0} where
   found-last [] y xs (skip a) = inl a
   found-last [] y (_ ∷ xs) (keep done) = inr ([], refl, done)
   found-last (z ∷ ys) y xs (skip a) = ⊎-elim (λ b. inl (skip b)) (λ w. inr (w .0, w .1, skip (w .2))) (found-last ys y xs a)
-  found-last (z ∷ ys) y (_ ∷ xs) (keep a) = ⊎-elim (λ b. inl (keep b)) (λ w. inr (z ∷ w .0, ap (λ (l : List A). z ∷ l) (w .1), keep (w .2))) (found-last ys y xs a)
+  found-last (z ∷ ys) y (_ ∷ xs) (keep a) =
+      ⊎-elim (λ b. inl (keep b)) (λ w. inr (z ∷ w .0, ap (λ (l : List A). z ∷ l) (w .1), keep (w .2))) (found-last ys y xs a)
 
   nil-snoc : (zs : List A) (y : A) → [] ≡ zs ++ (y ∷ []) → ⊥
   nil-snoc [] y e = let z : _≡_ {A = ℕ} 0 1 = cc in omega arith
@@ -69,7 +70,8 @@ module _ {A : Type 0} where
           omega (arith, shorter l i room q a)
 
   -- y is the next record: one more is found
-  pub longest-next : {k : ℕ} {rs ys : List A} (y : A) → Longest k rs ys → k < length rs → take (suc k) rs ≡ take k rs ++ (y ∷ []) → Longest (k + 1) rs (ys ++ (y ∷ []))
+  pub longest-next : {k : ℕ} {rs ys : List A} (y : A) → Longest k rs ys → k < length rs → take (suc k) rs ≡ take k rs ++ (y ∷ [])
+      → Longest (k + 1) rs (ys ++ (y ∷ []))
   longest-next {k} {rs} {ys} y l room e =
       record {
         within = omega arith;

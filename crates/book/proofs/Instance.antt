@@ -10,7 +10,7 @@ use lib.Ieee.{ofInt, ofBits, add, sub, mul, div, neg, le, lt, eq}
 use Rattle.numbers.specs.Fused.{fused, root}
 use Rattle.book.specs.Answers.{first, Buffers}
 use Rattle.book.specs.Examples.{real, whole, ofBits64}
-use Rattle.book.specs.ExactlyOnce.{give, Given}
+use Rattle.book.specs.ExactlyOnce.{Numbered, give, Given}
 use Rattle.book.specs.Kernels.{sizeTests, seatTests, swapped}
 use Rattle.book.specs.Measuring.{measured, probability, summed}
 use Rattle.book.specs.Sessions.{session}
@@ -59,6 +59,10 @@ abbrev numberedFrom : ℕ → List Gate → List Record
 numberedFrom k [] = []
 numberedFrom k (g ∷ gs) = record { session = 7; number = k; gate = g } ∷ numberedFrom (k + 1) gs
 
+numbered-from : (k : ℕ) (gs : List Gate) → Numbered 7 k (numberedFrom k gs)
+numbered-from k [] = tt
+numbered-from k (g ∷ gs) = (refl, refl, numbered-from (k + 1) gs)
+
 abbrev records : List Record
 records = numberedFrom 0 gates
 
@@ -71,14 +75,15 @@ orElse b (some b′) = b′
 orElse b none = b
 
 pub given : Given 2 7 before records
-unfolding fused root first sizeTests seatTests swapped measured probability summed tabulate held chosen choice placed onPairs le lt eq div add sub mul neg ones ofInt ofBits
+unfolding fused root first sizeTests seatTests swapped measured probability summed tabulate held chosen choice placed onPairs
+    le lt eq div add sub mul neg ones ofInt ofBits
 given =
     record {
       session = session 2 7 0;
       fresh = refl;
       fits = refl;
       few = omega arith;
-      made = (refl, refl, (refl, refl, (refl, refl, (refl, refl, (refl, refl, (refl, refl, (refl, refl, (refl, refl, (refl, refl, (refl, refl, (refl, refl, (refl, refl, tt))))))))))));
+      made = numbered-from 0 gates;
       last = orElse before (give 2 before records);
       accepted = refl;
     }

@@ -39,7 +39,8 @@ chosen-up t c free i e =
 
 -- ---- a rule that undoes itself
 
-module _ (rule : Pair → Pair) (undoes : (p : Pair) → rule (rule p) ≡ p) (n t : ℕ) (c : Controls) (small : t < n) (free : bit t (c .ones) ≡ 0) (b : Buffers) where
+module _ (rule : Pair → Pair) (undoes : (p : Pair) → rule (rule p) ≡ p) (n t : ℕ) (c : Controls) (small : t < n) (free : bit t (c .ones) ≡ 0)
+    (b : Buffers) where
   once : State
   once = placed rule t c (at b)
 
@@ -144,7 +145,8 @@ accepted rule most own n t c b e =
       free = let ne : bit t (c .ones) ≡ 1 → ⊥ = eqb-false (bit t (c .ones)) 1 other in omega (arith, bit-lt t (c .ones), ne);
     }
 
-pub undone : (rule : Pair → Pair) (most : ℕ) (own : List Test) → ((p : Pair) → rule (rule p) ≡ p) → (n t : ℕ) (c : Controls) → Undone n (pairCall rule most own n t c)
+pub undone : (rule : Pair → Pair) (most : ℕ) (own : List Test) → ((p : Pair) → rule (rule p) ≡ p) → (n t : ℕ) (c : Controls)
+    → Undone n (pairCall rule most own n t c)
 undone rule most own undoes n t c b =
     call-undone n (pairCall rule most own n t c) (λ _ _. refl) b
     (λ e.

@@ -75,7 +75,8 @@ pub data Row : Type 0 where
 -- the rows of codes 0, 1, 2, .. 12
 abbrev pub rows : List Row
 rows =
-    unlisted ∷ plain H ∷ plain X ∷ plain Y ∷ plain Z ∷ angled P ∷ angled Rx ∷ angled Ry ∷ angled Rz ∷ eight U ∷ second Swap ∷ forced Measure ∷ noisy BitFlip ∷ []
+    unlisted ∷ plain H ∷ plain X ∷ plain Y ∷ plain Z ∷ angled P ∷ angled Rx ∷ angled Ry ∷ angled Rz ∷ eight U
+    ∷ second Swap ∷ forced Measure ∷ noisy BitFlip ∷ []
 
 abbrev pub rowOf : ℕ → Row
 rowOf code = getD rows code unlisted

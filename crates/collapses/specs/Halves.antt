@@ -4,9 +4,10 @@ use mathlib.Core.Bool.{Bool, cond}
 use lib.Ieee.{Float}
 use Rattle.book.specs.Answers.{Buffers}
 use Rattle.book.specs.Gates.{_⊗_, nought}
+use Rattle.book.specs.Lent.{SameSize}
 use Rattle.book.specs.State.{amplitude, at}
 use Rattle.book.specs.declared.Amplitude.{Amplitude}
-use Rattle.pairs.specs.Pairs.{SameSize, Mapped}
+use Rattle.pairs.specs.Pairs.{Mapped}
 
 -- an amplitude of the chosen half, and of the other
 abbrev pub scaled : Float → Amplitude → Amplitude

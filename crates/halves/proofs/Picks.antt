@@ -7,11 +7,12 @@ use lib.Bits.{bitAnd, bitOr, and-self, and-zero-r}
 use lib.Ieee.{Float}
 use lib.ListN.{length, set}
 use Rattle.book.specs.Answers.{Buffers, buffers}
+use Rattle.book.specs.Lent.{SameSize}
 use Rattle.book.specs.State.{State, amplitude, at}
 use Rattle.book.specs.declared.Amplitude.{Amplitude}
 use Rattle.book.specs.declared.Angle.{Angle}
 use Rattle.fed.specs.Named.{upperOf}
-use Rattle.pairs.specs.Pairs.{SameSize, Mapped, Has}
+use Rattle.pairs.specs.Pairs.{Mapped, Has}
 use Rattle.pairs.proofs.Bits.{or-ge, or-covers, next-least}
 use Rattle.pairs.proofs.Halves.{turn-same, Walked, walk-starts, walk-steps, walk-skips, walk-ends}
 use Rattle.pairs.proofs.Keys.{key-ge}

@@ -7,10 +7,10 @@ use fed::feed;
 use fed::put;
 use pairs::read_pair;
 use pairs::write_pair;
-ghost use Rattle.book.specs.Lent.{before, after, here};
+ghost use Rattle.book.specs.Lent.{before, after, here, SameSize};
 ghost use Rattle.book.specs.State.{at};
 ghost use Rattle.fed.specs.Named.{ruleOf, putOf};
-ghost use Rattle.pairs.specs.Pairs.{TwoPlaces, PairPut, SameSize, Keyed, Swept};
+ghost use Rattle.pairs.specs.Pairs.{TwoPlaces, PairPut, Keyed, Swept};
 
 fn step(reals: &mut [f64], imags: &mut [f64], s0: usize, s1: usize, fed: Fed, matrix: Matrix)
     requires { ⌜ TwoPlaces (here reals imags) s0 s1 ⌝ }

@@ -10,10 +10,11 @@ use lib.ListN.{length, set, length-set}
 use lib.Seq.{getD-set-same, getD-set-other}
 use Rattle.book.specs.Answers.{Buffers, buffers}
 use Rattle.book.specs.Gates.{nought}
+use Rattle.book.specs.Lent.{SameSize}
 use Rattle.book.specs.State.{State, amplitude, at, held}
 use Rattle.book.specs.declared.Amplitude.{Amplitude}
 use Rattle.book.proofs.Tables.{held-only}
-use Rattle.matrices.specs.Filled.{Holds, SameSize, Filled}
+use Rattle.matrices.specs.Filled.{Holds, Filled}
 
 -- the code's 0.0
 pub zero-is : amplitude (ofBits binary64 0) (ofBits binary64 0) ≡ amplitude nought nought

@@ -4,16 +4,13 @@ use mathlib.Core.Logic.{_⊎_}
 use mathlib.Core.Path.{_≡_}
 use lib.ListN.{length}
 use Rattle.book.specs.Answers.{Buffers}
+use Rattle.book.specs.Lent.{SameSize}
 use Rattle.book.specs.State.{State, at}
 
 -- both buffers hold so many places
 pub record Holds (count : ℕ) (b : Buffers) : Type 0 where
   pub reals : count ≤ length (b .reals)
   pub imags : count ≤ length (b .imags)
-
-pub record SameSize (b b′ : Buffers) : Type 0 where
-  pub reals : length (b′ .reals) ≡ length (b .reals)
-  pub imags : length (b′ .imags) ≡ length (b .imags)
 
 -- the count places from `from` on hold f 0, f 1, ..; the others are as they were
 pub record Filled (from count : ℕ) (f : State) (b b′ : Buffers) : Type 0 where

@@ -7,9 +7,10 @@ use lib.Ieee.{nan}
 use lib.ListN.{length, getD, set, length-set}
 use lib.Seq.{getD-set-same, getD-set-other}
 use Rattle.book.specs.Answers.{Buffers, buffers}
+use Rattle.book.specs.Lent.{SameSize}
 use Rattle.book.specs.State.{State, amplitude, at, held, pair}
 use Rattle.book.specs.declared.Pair.{Pair}
-use Rattle.pairs.specs.Pairs.{TwoPlaces, PairPut, SameSize}
+use Rattle.pairs.specs.Pairs.{TwoPlaces, PairPut}
 use Rattle.book.proofs.Lengths.{tabulate-length}
 pub use Rattle.book.proofs.Tables.{held-only as held-ext, at-held}
 

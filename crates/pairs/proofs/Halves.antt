@@ -11,12 +11,13 @@ use lib.Ieee.{Float, nan}
 use lib.ListN.{length, set, length-set}
 use lib.Seq.{getD-set-same, getD-set-other}
 use Rattle.book.specs.Answers.{Buffers, buffers}
+use Rattle.book.specs.Lent.{SameSize}
 use Rattle.book.specs.State.{State, amplitude, at, bit, chosen, half, choice, pair, placeBy, placed, onPairs}
 use Rattle.book.specs.declared.Amplitude.{Amplitude}
 use Rattle.book.specs.declared.Controls.{Controls}
 use Rattle.book.specs.declared.Pair.{Pair}
 use Rattle.judging.specs.Judging.{Seated}
-use Rattle.pairs.specs.Pairs.{SameSize, Mapped, UppersTurned}
+use Rattle.pairs.specs.Pairs.{Mapped, UppersTurned}
 use Rattle.pairs.proofs.Bits.{halves}
 use Rattle.pairs.proofs.Buffers.{held-ext}
 use Rattle.pairs.proofs.Lending.{lent, returned, lent-reals, lent-place, back-same, back-inside, back-before, back-after}

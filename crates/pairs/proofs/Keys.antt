@@ -5,9 +5,10 @@ use native.Mathlib.Decide.{decLt}
 use native.Mathlib.Omega.{arith}
 use lib.Bits.{bitOr, and-self, and-le-l}
 use Rattle.book.specs.Answers.{Buffers}
+use Rattle.book.specs.Lent.{SameSize}
 use Rattle.book.specs.State.{at}
 use Rattle.book.specs.declared.Pair.{Pair}
-use Rattle.pairs.specs.Pairs.{TwoPlaces, PairPut, SameSize, Apart, Paired, Has, Keyed, Swept}
+use Rattle.pairs.specs.Pairs.{TwoPlaces, PairPut, Apart, Paired, Has, Keyed, Swept}
 use Rattle.pairs.proofs.Bits.{or-ge, or-covers, next-least}
 use Rattle.pairs.proofs.Loop.{nothing, one, join}
 use Rattle.judging.proofs.Shifts.{shl, shl-is, pow-le}

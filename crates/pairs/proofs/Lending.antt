@@ -8,8 +8,8 @@ use lib.Ieee.{nan}
 use lib.ListN.{length, getD, take, drop, length-append, length-drop, List·getD-append}
 use lib.Seq.{getD-take, getD-drop, getD-append-add, length-take-le}
 use Rattle.book.specs.Answers.{Buffers, buffers}
+use Rattle.book.specs.Lent.{SameSize}
 use Rattle.book.specs.State.{amplitude, at}
-use Rattle.pairs.specs.Pairs.{SameSize}
 
 -- ---- one list: xs with ys in the place of the k elements from a on
 module _ {A : Type 0} (xs ys : List A) (a k : ℕ) (d : A) (fits : a + k ≤ length xs) (part : length ys ≡ k) where

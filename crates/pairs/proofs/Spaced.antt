@@ -10,9 +10,10 @@ use lib.Ieee.{nan}
 use lib.ListN.{length, getD, set, length-set}
 use lib.Seq.{getD-set-same, getD-set-other}
 use Rattle.book.specs.Answers.{Buffers, buffers}
+use Rattle.book.specs.Lent.{SameSize}
 use Rattle.book.specs.State.{State, amplitude, at, pair}
 use Rattle.book.specs.declared.Pair.{Pair}
-use Rattle.pairs.specs.Pairs.{TwoPlaces, pairAt, PairPut, SameSize, Apart, Paired}
+use Rattle.pairs.specs.Pairs.{TwoPlaces, pairAt, PairPut, Apart, Paired}
 use Rattle.pairs.specs.Runs.{Spaced, Run, RunDone, FourPlaces, WrittenTwo}
 use Rattle.pairs.proofs.Loop.{nothing, one, join}
 

@@ -11,9 +11,10 @@ use lib.ListN.{length}
 use lib.Pow as Pow
 use lib.Pow.{pow-pos, pow-mono, split, high}
 use Rattle.book.specs.Answers.{Buffers}
+use Rattle.book.specs.Lent.{SameSize}
 use Rattle.book.specs.State.{at, pair}
 use Rattle.book.specs.declared.Pair.{Pair}
-use Rattle.pairs.specs.Pairs.{SameSize, Paired, Has, Swept}
+use Rattle.pairs.specs.Pairs.{Paired, Has, Swept}
 use Rattle.pairs.specs.Runs.{Spaced, Run, RunDone, Cut, Runs}
 use Rattle.pairs.proofs.Bits.{or-ge, or-covers, next-block, next-block-least}
 use Rattle.pairs.proofs.Cuts.{pow-split}

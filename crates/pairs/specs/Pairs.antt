@@ -5,6 +5,7 @@ use mathlib.Core.Path.{_≡_}
 use lib.Bits.{bitAnd}
 use lib.ListN.{length}
 use Rattle.book.specs.Answers.{Buffers}
+use Rattle.book.specs.Lent.{SameSize}
 use Rattle.book.specs.State.{State, at, bit, pair}
 use Rattle.book.specs.declared.Amplitude.{Amplitude}
 use Rattle.book.specs.declared.Pair.{Pair}
@@ -25,11 +26,6 @@ pub record PairPut (rule : Pair → Pair) (s0 s1 : ℕ) (s s′ : State) : Type 
   pub lower : s′ s0 ≡ rule (pair (s s0) (s s1)) .s0
   pub upper : s′ s1 ≡ rule (pair (s s0) (s s1)) .s1
   pub others : (i : ℕ) → (i ≡ s0 → ⊥) → (i ≡ s1 → ⊥) → s′ i ≡ s i
-
--- both buffers keep their lengths
-pub record SameSize (b b′ : Buffers) : Type 0 where
-  pub reals : length (b′ .reals) ≡ length (b .reals)
-  pub imags : length (b′ .imags) ≡ length (b .imags)
 
 -- ---- many pairs: each key has one, at the places s0 and s1 of the key
 

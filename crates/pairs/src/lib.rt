@@ -3,9 +3,9 @@
 use book::Amplitude;
 use book::Pair;
 ghost use mathlib.Core.Path.{_≡_};
-ghost use Rattle.book.specs.Lent.{before, after, here};
+ghost use Rattle.book.specs.Lent.{before, after, here, SameSize};
 ghost use Rattle.book.specs.State.{at};
-ghost use Rattle.pairs.specs.Pairs.{TwoPlaces, pairAt, PairPut, SameSize};
+ghost use Rattle.pairs.specs.Pairs.{TwoPlaces, pairAt, PairPut};
 ghost use Rattle.pairs.specs.Runs.{FourPlaces, WrittenTwo};
 
 pub fn read_pair(reals: &[f64], imags: &[f64], s0: usize, s1: usize) -> Pair

@@ -3,9 +3,9 @@ use Prim.Native.Nat.{ℕ, _+_, _*_, _/_, _%_, _≤_, _<_}
 use mathlib.Core.Logic.{_⊎_}
 use mathlib.Core.Path.{_≡_}
 use Rattle.book.specs.Answers.{Buffers}
+use Rattle.book.specs.Lent.{SameSize}
 use Rattle.book.specs.Matrices.{conjugate}
 use Rattle.book.specs.State.{at}
-use Rattle.matrices.specs.Filled.{SameSize}
 
 -- the place with row and column exchanged
 unfoldable pub mirror : ℕ → ℕ → ℕ

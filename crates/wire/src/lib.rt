@@ -2,15 +2,13 @@
 // proofs/ has what the reader and the writer share: numbers and floats as bytes, there and back, and fields.
 ghost use mathlib.Core.Path.{_≡_};
 ghost use lib.Ieee.{binary64, ofBits, toBits};
+use numbers::INFINITY;
+use numbers::SIGN;
 
-// The bits of an f64 less its sign, and of positive infinity: what is above that is a NaN.
-const SIGN: u64 = 0x8000_0000_0000_0000;
-
-const INFINITY: u64 = 0x7ff0_0000_0000_0000;
 // The bits that a NaN is written as.
 const NAN: u64 = 0x7ff8_0000_0000_0000;
 
-// The f64 that has these bits.
+// The f64 that has these bits: less their sign, what is above an infinity's is a NaN.
 pub fn float_of(bits: u64) -> f64
     ensures { λ r. ⌜ r ≡ ofBits binary64 bits ⌝ }
 {
