@@ -24,7 +24,7 @@ loop-holds : tie.Need-loop-holds Inv-loop μ-loop
 loop-holds c = (omega arith, nothing _ _ _)
 
 -- the buffers hold the place of this turn
-room : (c : tie.After-crossing-at Inv-loop μ-loop) → Holds (c .before .before .loop .place + 1) (buffers (c .before .before .loop .reals) (c .before .before .loop .imags))
+room : (c : tie.After-crossing-at Inv-loop μ-loop) → let l = c .before .before .loop in Holds (l .place + 1) (buffers (l .reals) (l .imags))
 room c =
     let turn = c .before in
     let start = turn .before .before .before .before .before in
