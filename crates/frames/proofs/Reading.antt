@@ -54,7 +54,8 @@ module _ (s : List ℕ) where
   pub too-many : 1 ≤ getD s 3 0 → 11 < getD s 3 0 → starts 0x21 5 s ≡ true → Bad ≡ headerOf s
   too-many l h e = rw (e, le-ltb (getD s 3 0) 1 l, lt-ltb 11 (getD s 3 0) h)
 
-  pub good : (session : ℕ) → 1 ≤ getD s 3 0 → getD s 3 0 ≤ 11 → starts 0x21 5 s ≡ true → session ≡ number (take 4 (drop 4 s)) → Good (getD s 3 0) session ≡ headerOf s
+  pub good : (session : ℕ) → 1 ≤ getD s 3 0 → getD s 3 0 ≤ 11 → starts 0x21 5 s ≡ true → session ≡ number (take 4 (drop 4 s))
+      → Good (getD s 3 0) session ≡ headerOf s
   good session l h e q = rw (e, le-ltb (getD s 3 0) 1 l, le-ltb 11 (getD s 3 0) h) (ap (Good (getD s 3 0)) q)
 
 pub bad-small : (n session : ℕ) → Bad ≡ Good n session → n ≤ 11

@@ -70,7 +70,8 @@ unfolding first sizeTests
 free most n t b us =
     ap (λ (k : ℕ). cond (badSize mostQubits n) 1 (cond (badLength (2 ^ n) b) 2 k)) (free-tests most n t us)
 
-pub free-judged : (most n t : ℕ) (b : Buffers) {r : Answer} → Judges (sizeTests n b ++ seatTests most n t uncontrolled) r → Judges (sizeTests n b ++ freeTests n t) r
+pub free-judged : (most n t : ℕ) (b : Buffers) {r : Answer} → Judges (sizeTests n b ++ seatTests most n t uncontrolled) r
+    → Judges (sizeTests n b ++ freeTests n t) r
 unfolding seatTests
 free-judged most n t b j = record { is = j .is ∙ ap verdict (free most n t b []) }
 

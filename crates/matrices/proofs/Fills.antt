@@ -1,4 +1,4 @@
--- Stretches of filled places: one after the other is one stretch, one over the other is the later one, and a stretch of all places is the table. Assumes nothing.
+-- Stretches of filled places: one behind another is one stretch, one over another is the later one, and one of all places is the table. Assumes nothing.
 use Prim.Native.Nat.{ℕ, _+_, _-_, _≤_, _<_}
 use mathlib.Core.List.{List}
 use mathlib.Core.Logic.{inl, inr, ⊎-elim}

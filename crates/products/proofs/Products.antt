@@ -66,7 +66,8 @@ module _ (n : ℕ) (aa bb b : Buffers) (ok : badSize mostMatrix n ≡ false) whe
       → Does (Book.product n aa bb b) (Refused Length) b
   product-long e = product-length _ n aa bb b _ _ ok (rw is at e)
 
-  pub product-filled : (b′ : Buffers) → (badLength (shifted n * shifted n) aa || badLength (shifted n * shifted n) bb || badLength (shifted n * shifted n) b) ≡ false
+  pub product-filled : (b′ : Buffers)
+      → (badLength (shifted n * shifted n) aa || badLength (shifted n * shifted n) bb || badLength (shifted n * shifted n) b) ≡ false
       → Filled 0 (shifted n * shifted n) (product (shifted n) aa bb) b b′ → Does (Book.product n aa bb b) Taken b′
   product-filled b′ e w = product-done n aa bb b b′ ok (rw is at e) (rw is at w)
 

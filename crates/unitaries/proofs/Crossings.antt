@@ -19,5 +19,6 @@ bit-part-lt t i l = mul-le-mul {n₁ = bit t i} {n₂ = 2} (le-of-lt (bit-lt t i
 pub off-crossing : (m : Matrix) (t row column : ℕ) → (withoutTarget t row ≡ withoutTarget t column → ⊥) → amplitude nought nought ≡ crossing m t row column
 off-crossing m t row column n = rw (ne-eqb (withoutTarget t row) (withoutTarget t column) n)
 
-pub on-crossing : (m : Matrix) (t row column : ℕ) → withoutTarget t row ≡ withoutTarget t column → entry m (2 * bit t row + bit t column) ≡ crossing m t row column
+pub on-crossing : (m : Matrix) (t row column : ℕ) → withoutTarget t row ≡ withoutTarget t column
+    → entry m (2 * bit t row + bit t column) ≡ crossing m t row column
 on-crossing m t row column e = rw (eq-eqb (withoutTarget t row) (withoutTarget t column) e)

@@ -70,7 +70,8 @@ crossed i j b b₁ b₂ {x = x} {y = y} p q r s f g =
 -- the code's four stores
 pub crossed-stores : (re im : List Float) (i j : ℕ) → Holds (i + 1) (buffers re im) → Holds (j + 1) (buffers re im)
     → Crossed i j (buffers re im)
-    (buffers (set (set re i (getD re j nan)) j (getD re i nan)) (set (set im i (conjugate (at (buffers re im) j) .im)) j (conjugate (at (buffers re im) i) .im)))
+    (buffers (set (set re i (getD re j nan)) j (getD re i nan))
+    (set (set im i (conjugate (at (buffers re im) j) .im)) j (conjugate (at (buffers re im) i) .im)))
 crossed-stores re im i j h k =
     let x = conjugate (at (buffers re im) j) in
     let y = conjugate (at (buffers re im) i) in

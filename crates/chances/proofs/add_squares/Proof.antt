@@ -20,7 +20,9 @@ loop-holds : tie.Need-loop-holds Inv-loop μ-loop
 loop-holds c = (omega arith, c .pre .0 .stretch .order, c .pre .1)
 
 loop-again : tie.Need-loop-again Inv-loop μ-loop
-loop-again c = let l = c .before .before .before in (omega arith, omega arith, sum-takes _ _ _ (l .loop .inv .2) (l .before .pre .0 .low _ (l .loop .inv .0) (c .before .before .loop-test .taken)))
+loop-again c =
+    let l = c .before .before .before in
+    (omega arith, omega arith, sum-takes _ _ _ (l .loop .inv .2) (l .before .pre .0 .low _ (l .loop .inv .0) (c .before .before .loop-test .taken)))
 
 returns : tie.Need-returns Inv-loop μ-loop
 returns c = let e : c .before .loop .i ≡ c .before .before .args .to = omega arith in rw e at (c .before .loop .inv .2)

@@ -34,7 +34,8 @@ returns-2 c =
     let a = known .before .before .before .before .args in
     let n = known .mask .given in
     ap (λ (x : Controls). Mask x (n .0 .1 .0)) (c .of .ensures)
-    ∙ some-mask (a .at + 7) (holding number 5 4 (drop (a .at) (a .bytes .now))) (n .0 .0) (n .0 .1 .0) (sym (known .before .before .number-field .ensures .0) ∙ n .1)
+    ∙ some-mask (a .at + 7) (holding number 5 4 (drop (a .at) (a .bytes .now))) (n .0 .0) (n .0 .1 .0)
+    (sym (known .before .before .number-field .ensures .0) ∙ n .1)
 
 pub mask-field-spec : {M : Type 1} → statement M
 mask-field-spec =

@@ -18,7 +18,8 @@ returns-5 c =
 
 returns-6 : tie.Need-returns-6
 returns-6 c =
-    let a = c .before .before .before .before .before .before .args in
+    let matched = c .before .before .before .before in
+    let a = matched .before .before .args in
     c .read-angled .ensures
     ∙ ap (λ (r : Row). madeOf (readRow r (a .target) (drop (a .at) (a .bytes .now)))) (angled-rows (a .code) (omega arith) (omega arith))
 

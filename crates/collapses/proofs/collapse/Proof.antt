@@ -31,21 +31,25 @@ roomy c = block-room (start c .pre) (c .before .loop .inv) (inside c)
 
 collapse-half-requires-2 : tie.Need-collapse-half-requires-2 Inv-loop μ-loop
 collapse-half-requires-2 c κs =
-    let first = c .before .before .before .before .before .before in
+    let lent-back = c .before .before in
+    let first = lent-back .before .before .before .before in
     let turn = first .before .before .before in
     let bit = bit-is turn in
     rw bit (upper-half (start turn .pre) (turn .before .loop .inv) (inside turn) (rw bit at (first .collapse-half .ensures)))
 
 loop-less : tie.Need-loop-less Inv-loop μ-loop
 loop-less c =
-    let first = c .before .before .before .before .before .before .before .before .before .before .before in
+    let second = c .before .before .before .before in
+    let lent-back = second .before .before .before in
+    let first = lent-back .before .before .before .before in
     let turn = first .before .before .before in
     rw (bit-is turn) (nearer _ _ _ (inside turn))
 
 loop-again : tie.Need-loop-again Inv-loop μ-loop
 loop-again c =
     let second = c .before .before .before .before in
-    let first = second .before .before .before .before .before .before .before in
+    let lent-back = second .before .before .before in
+    let first = lent-back .before .before .before .before in
     let turn = first .before .before .before in
     let bit = bit-is turn in
     rw bit

@@ -4,10 +4,14 @@ use Rattle.collapses.proofs.collapse_half.Statement.{statement}
 use Rattle.collapses.proofs.collapse_half.Tie as tie
 
 returns : tie.Need-returns
-returns c = rw (c .before .before .before .before .before .before .before .if1 .taken) (c .before .before .before .before .scale .ensures)
+returns c =
+    let made = c .before .before .before .before in
+    rw (made .before .before .before .if1 .taken) (made .scale .ensures)
 
 returns-2 : tie.Need-returns-2
-returns-2 c = rw (c .before .before .before .before .before .before .before .if1 .left) (c .before .before .before .before .clear .ensures)
+returns-2 c =
+    let made = c .before .before .before .before in
+    rw (made .before .before .before .if1 .left) (made .clear .ensures)
 
 pub collapse-half-spec : {M : Type 1} → statement M
 collapse-half-spec =

@@ -19,7 +19,10 @@ loop-holds : tie.Need-loop-holds Inv-loop μ-loop
 loop-holds c = (omega arith, c .pre .order, none _ _ _)
 
 loop-again : tie.Need-loop-again Inv-loop μ-loop
-loop-again c = (omega arith, omega arith, one-more _ (c .before .before .before .before .pre) (c .before .before .before .loop .inv .0) (c .before .before .loop-test .taken) (c .before .before .before .loop .inv .2) refl)
+loop-again c =
+    let turn = c .before .before in
+    let so-far = turn .before .loop .inv in
+    (omega arith, omega arith, one-more _ (turn .before .before .pre) (so-far .0) (turn .loop-test .taken) (so-far .2) refl)
 
 returns : tie.Need-returns Inv-loop μ-loop
 returns c = done _ (c .before .loop .inv .1) (c .loop-test .left) (c .before .loop .inv .2)

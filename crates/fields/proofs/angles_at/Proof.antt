@@ -5,12 +5,13 @@ use Rattle.fields.proofs.angles_at.Tie as tie
 
 returns : tie.Need-returns
 returns c =
+    let fourth = c .before .before .before .before in
     λ i.
     record {
-      ct = c .before .before .before .before .before .before .before .float-at .ensures i;
-      st = c .before .before .before .before .before .before .float-at2 .ensures i;
-      cl = c .before .before .before .before .before .float-at3 .ensures i;
-      sl = c .before .before .before .before .float-at4 .ensures i;
+      ct = fourth .before .before .before .float-at .ensures i;
+      st = fourth .before .before .float-at2 .ensures i;
+      cl = fourth .before .float-at3 .ensures i;
+      sl = fourth .float-at4 .ensures i;
       cpl = c .before .before .before .float-at5 .ensures i;
       spl = c .before .before .float-at6 .ensures i;
       cp = c .before .float-at7 .ensures i;

@@ -19,9 +19,10 @@ returns-3 c = let a = c .before .before .before .before .before .args in other-t
 
 returns-4 : tie.Need-returns-4
 returns-4 c =
-    let a = c .before .before .before .before .before .before .args in
+    let tagged = c .before in
+    let a = tagged .before .before .before .before .before .args in
     ap (λ (n : ℕ). eqb n (a .len)) (c .number-at .ensures .0)
-    ∙ by-length (a .bytes .now) (a .at) (a .tag) (a .len) (omega arith) (c .before .if3 .left)
+    ∙ by-length (a .bytes .now) (a .at) (a .tag) (a .len) (omega arith) (tagged .if3 .left)
 
 pub starts-at-spec : {M : Type 1} → statement M
 starts-at-spec =

@@ -14,13 +14,16 @@ returns-2 : tie.Need-returns-2
 returns-2 c = let a = c .before .before .before .args in rw (eq-eqb (length (a .bytes .now)) 0 (c .before .if1 .taken), c .if2 .left)
 
 returns-3 : tie.Need-returns-3
-returns-3 c = let s = c .before .before .before .before .args .bytes .now in rw (ne-eqb (length s) 0 (c .before .before .if1 .left), ne-eqb (getD s 0 0) 0x20 (c .if3 .taken))
+returns-3 c =
+    let s = c .before .before .before .before .args .bytes .now in
+    rw (ne-eqb (length s) 0 (c .before .before .if1 .left), ne-eqb (getD s 0 0) 0x20 (c .if3 .taken))
 
 returns-4 : tie.Need-returns-4
 returns-4 c =
-    let s = c .before .before .before .before .before .before .args .bytes .now in
+    let some = c .before .before .before .before in
+    let s = some .before .before .args .bytes .now in
     rw (
-      ne-eqb (length s) 0 (c .before .before .before .before .if1 .left),
+      ne-eqb (length s) 0 (some .if1 .left),
       eq-eqb (getD s 0 0) 0x20 (c .before .before .if3 .left),
       lt-ltb (length s) 3 (c .before .if4 .taken),
     )
@@ -28,10 +31,11 @@ returns-4 c =
 
 returns-5 : tie.Need-returns-5
 returns-5 c =
-    let a = c .before .before .before .before .before .before .before .args in
+    let some = c .before .before .before .before .before in
+    let a = some .before .before .args in
     let s = a .bytes .now in
     rw (
-      ne-eqb (length s) 0 (c .before .before .before .before .before .if1 .left),
+      ne-eqb (length s) 0 (some .if1 .left),
       eq-eqb (getD s 0 0) 0x20 (c .before .before .before .if3 .left),
       le-ltb (length s) 3 (c .before .before .if4 .left),
     )

@@ -11,7 +11,10 @@ returns-2 : tie.Need-returns-2
 returns-2 c = rw (sym (c .before .before .before .bad-length .ensures) ∙ c .before .before .if1 .left, sym (c .before .bad-length2 .ensures) ∙ c .if2 .taken)
 
 returns-3 : tie.Need-returns-3
-returns-3 c = rw (sym (c .before .before .before .before .bad-length .ensures) ∙ c .before .before .before .if1 .left, sym (c .before .before .bad-length2 .ensures) ∙ c .before .if2 .left) (c .bad-length3 .ensures)
+returns-3 c =
+    let second = c .before in
+    let first = second .before .before in
+    rw (sym (first .before .bad-length .ensures) ∙ first .if1 .left, sym (second .before .bad-length2 .ensures) ∙ second .if2 .left) (c .bad-length3 .ensures)
 
 pub bad-lengths-spec : {M : Type 1} → statement M
 bad-lengths-spec =

@@ -7,6 +7,8 @@ use Rattle.products.proofs.Products.{product-size, state-long, state-fi
 use Rattle.products.proofs.apply_unitary.Statement.{statement}
 use Rattle.products.proofs.apply_unitary.Tie as tie
 
+-- `sized` is the place behind the test of the size, `fitting` behind the test of the lengths
+
 returns : tie.Need-returns
 returns c = product-size _ _ _ _ _ _ _ (sym (c .before .bad-size .ensures) ∙ c .if1 .taken)
 
@@ -17,18 +19,24 @@ mul-bad-lengths : tie.Need-mul-bad-lengths
 mul-bad-lengths c = record { fits = square-fits _ (side-le _ (most-is _ (sym (c .before .bad-size .ensures) ∙ c .if1 .left))) }
 
 returns-2 : tie.Need-returns-2
-returns-2 c = state-long _ _ _ _ (sym (c .before .before .before .before .before .bad-size .ensures) ∙ c .before .before .before .before .if1 .left) (sym (c .before .bad-lengths .ensures) ∙ c .if2 .taken)
+returns-2 c =
+    let sized = c .before .before .before .before in
+    state-long _ _ _ _ (sym (sized .before .bad-size .ensures) ∙ sized .if1 .left) (sym (c .before .bad-lengths .ensures) ∙ c .if2 .taken)
 
 fill-state-requires : tie.Need-fill-state-requires
 fill-state-requires c κs =
-    ready _ _ _ _ _ _ _ (side-le _ (most-is _ (sym (c .before .before .before .before .before .before .before .bad-size .ensures) ∙ c .before .before .before .before .before .before .if1 .left)))
-    (sym (c .before .before .before .bad-lengths .ensures) ∙ c .before .before .if2 .left)
+    let fitting = c .before .before in
+    let sized = fitting .before .before .before .before in
+    ready _ _ _ _ _ _ _ (side-le _ (most-is _ (sym (sized .before .bad-size .ensures) ∙ sized .if1 .left)))
+    (sym (fitting .before .bad-lengths .ensures) ∙ fitting .if2 .left)
 
 returns-3 : tie.Need-returns-3
 returns-3 c =
-    state-filled _ _ _ _ (sym (c .before .before .before .before .before .before .before .before .before .before .before .before .bad-size .ensures) ∙ c .before .before .before .before .before .before .before .before .before .before .before .if1 .left) _
-    (sym (c .before .before .before .before .before .before .before .before .bad-lengths .ensures) ∙ c .before .before .before .before .before .before .before .if2 .left)
-    (c .before .before .before .before .fill-state .ensures)
+    let filled = c .before .before .before .before in
+    let fitting = filled .before .before .before in
+    let sized = fitting .before .before .before .before in
+    state-filled _ _ _ _ (sym (sized .before .bad-size .ensures) ∙ sized .if1 .left) _ (sym (fitting .before .bad-lengths .ensures) ∙ fitting .if2 .left)
+    (filled .fill-state .ensures)
 
 pub apply-unitary-spec : {M : Type 1} → statement M
 apply-unitary-spec =

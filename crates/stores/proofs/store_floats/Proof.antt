@@ -24,10 +24,12 @@ loop-holds c = let a = c .before .before .args in (search needs, search needs, f
 
 loop-again : tie.Need-loop-again Inv-loop μ-loop
 loop-again c =
-    let a = c .before .before .before .before .before .before .before .before .before .before .args in
-    let l = c .before .before .before .before .before .before .before .loop in
-    let stored = c .before .before .store-number in
-    let same = ap (λ (n : ℕ). store (l .out) (a .at + 8 * l .i) (bytes 8 n)) (c .before .before .before .bits-of .ensures) in
+    let put = c .before .before in
+    let turn = put .before .before .before .before in
+    let a = turn .before .before .before .before .args in
+    let l = turn .before .loop in
+    let stored = put .store-number in
+    let same = ap (λ (n : ℕ). store (l .out) (a .at + 8 * l .i) (bytes 8 n)) (put .before .bits-of .ensures) in
     (search needs, search needs, floats-step (a .numbers .now) nan (a .at) (l .out) (stored .last .0) (l .i) (omega arith) (stored .ensures ∙ same) ∙ l .inv .2)
 
 returns : tie.Need-returns Inv-loop μ-loop

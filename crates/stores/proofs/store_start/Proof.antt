@@ -13,9 +13,11 @@ use Rattle.stores.proofs.store_start.Tie as tie
 
 returns : tie.Need-returns
 returns c =
-    let a = c .before .before .before .before .before .before .before .before .before .args in
-    let x = c .before .before .before .before .before .before .store-number in
-    let y = c .before .before .store-number2 in
+    let length-put = c .before .before in
+    let tag-put = length-put .before .before .before .before in
+    let a = tag-put .before .before .before .args in
+    let x = tag-put .store-number in
+    let y = length-put .store-number2 in
     store-then (a .out .now) (x .last .0) (y .last .0) (a .at) (a .at + 1) (bytes 1 (a .tag)) (bytes 2 (a .len)) (x .ensures) (y .ensures) (omega arith)
     ∙ ap (λ (t : ℕ). store (a .out .now) (a .at) (t ∷ bytes 2 (a .len))) (div-one (a .tag))
 

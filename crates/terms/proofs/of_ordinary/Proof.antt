@@ -29,7 +29,8 @@ returns-2 c =
 
 returns-3 : tie.Need-returns-3
 returns-3 c =
-    let first = c .before .before .before .before .before .before in
+    let second = c .before .before .before in
+    let first = second .before .before .before in
     let a = first .before .before .before .args in
     lacking (a .x) (a .y) (a .z) (λ o p q. not-ordinary (c .before .before .unpack3 .ensures) (c .if3 .taken) q)
 

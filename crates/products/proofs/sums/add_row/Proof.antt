@@ -12,7 +12,8 @@ use Rattle.products.proofs.sums.add_row.Statement.{statement}
 use Rattle.products.proofs.sums.add_row.Tie as tie
 
 abbrev Inv-loop : tie.InvT-loop
-Inv-loop reals₀ imags₀ from br bi start side re im j₀ reals imags j = (j ≤ side) × Filled from j (rowSum (buffers reals₀ imags₀) from (amplitude re im) (buffers br bi) start) (buffers reals₀ imags₀) (buffers reals imags)
+Inv-loop reals₀ imags₀ from br bi start side re im j₀ reals imags j =
+    (j ≤ side) × Filled from j (rowSum (buffers reals₀ imags₀) from (amplitude re im) (buffers br bi) start) (buffers reals₀ imags₀) (buffers reals imags)
 
 abbrev μ-loop : tie.MeasureT-loop
 μ-loop reals₀ imags₀ from br bi start side re im j₀ reals imags j = side - j
@@ -21,7 +22,16 @@ loop-holds : tie.Need-loop-holds Inv-loop μ-loop
 loop-holds c = (omega arith, nothing _ _ _)
 
 loop-again : tie.Need-loop-again Inv-loop μ-loop
-loop-again c = (omega (arith, c .before .before .before .before .before .before .before .before .before .before .before .before .loop-test .taken), sum-more _ _ _ _ _ _ _ _ (c .before .before .before .before .before .before .before .before .before .before .before .before .before .loop .inv .1) (c .before .before .before .before .before .before .before .before .before .read-at .ensures) (c .before .before .before .before .before .before .before .before .read-at2 .ensures) (c .before .before .before .before .before .before .before .add-product .ensures) (c .before .before .before .before .write-at .ensures))
+loop-again c =
+    let written = c .before .before .before .before in
+    let added = written .before .before .before in
+    let read-b = added .before in
+    let read-sum = read-b .before in
+    let turn = read-sum .before .before .before in (
+      omega (arith, turn .loop-test .taken),
+      sum-more _ _ _ _ _ _ _ _ (turn .before .loop .inv .1) (read-sum .read-at .ensures) (read-b .read-at2 .ensures)
+          (added .add-product .ensures) (written .write-at .ensures),
+    )
 
 returns : tie.Need-returns Inv-loop μ-loop
 returns c = done (c .before .loop .inv) (c .loop-test .left)

@@ -22,7 +22,10 @@ loop-holds : tie.Need-loop-holds Inv-loop μ-loop
 loop-holds c = (omega arith, nothing _ _ _)
 
 loop-again : tie.Need-loop-again Inv-loop μ-loop
-loop-again c = (omega arith, one-more refl (c .before .before .before .before .before .before .before .before .loop .inv .1) (c .before .before .before .before .write-at .ensures) zero-is)
+loop-again c =
+    let written = c .before .before .before .before in
+    let turn = written .before .before .before in
+    (omega arith, one-more refl (turn .before .loop .inv .1) (written .write-at .ensures) zero-is)
 
 returns : tie.Need-returns Inv-loop μ-loop
 returns c = done (c .before .loop .inv) (c .loop-test .left)

@@ -13,8 +13,11 @@ use Rattle.matrices.proofs.Fills.{empty, fewer, holds}
 use Rattle.products.proofs.sums.fill_product.Statement.{statement}
 use Rattle.products.proofs.sums.fill_product.Tie as tie
 
+-- `turn` is where a turn begins, `lent` where the buffers that are read are known
+
 abbrev Inv-loop : tie.InvT-loop
-Inv-loop ar ai br bi reals₀ imags₀ side row₀ reals imags row = (row ≤ side) × Filled 0 (row * side) (product side (buffers ar ai) (buffers br bi)) (buffers reals₀ imags₀) (buffers reals imags)
+Inv-loop ar ai br bi reals₀ imags₀ side row₀ reals imags row =
+    (row ≤ side) × Filled 0 (row * side) (product side (buffers ar ai) (buffers br bi)) (buffers reals₀ imags₀) (buffers reals imags)
 
 abbrev μ-loop : tie.MeasureT-loop
 μ-loop ar ai br bi reals₀ imags₀ side row₀ reals imags row = side - row
@@ -23,16 +26,35 @@ loop-holds : tie.Need-loop-holds Inv-loop μ-loop
 loop-holds c = (omega arith, empty _ _ (zero-mul _))
 
 mul-fill-row : tie.Need-mul-fill-row Inv-loop μ-loop
-mul-fill-row c = record { fits = start-fits _ _ (c .before .before .loop-test .taken) (c .before .before .before .before .before .before .before .before .before .before .pre .0) }
+mul-fill-row c =
+    let turn = c .before .before in
+    let lent = turn .before .before .before .before in
+    let start = lent .before .before .before .before in
+    record { fits = start-fits _ _ (turn .loop-test .taken) (start .pre .0) }
 
 fill-row-requires : tie.Need-fill-row-requires Inv-loop μ-loop
-fill-row-requires c κs = (record { most = c .before .before .before .before .before .before .before .before .before .before .pre .0; within = omega (arith, row-end _ _ (c .before .before .loop-test .taken), square-le _ (c .before .before .before .before .before .before .before .before .before .before .pre .0)) }, fewer (row-end _ _ (c .before .before .loop-test .taken)) (c .before .before .before .before .before .before .before .before .before .before .pre .1), c .before .before .before .before .before .before .before .before .before .before .pre .2, holds (c .before .before .before .loop .inv .1) (fewer (row-end _ _ (c .before .before .loop-test .taken)) (c .before .before .before .before .before .before .before .before .before .before .pre .3)))
+fill-row-requires c κs =
+    let turn = c .before .before in
+    let lent = turn .before .before .before .before in
+    let start = lent .before .before .before .before in (
+      record { most = start .pre .0; within = omega (arith, row-end _ _ (turn .loop-test .taken), square-le _ (start .pre .0)) },
+      fewer (row-end _ _ (turn .loop-test .taken)) (start .pre .1),
+      start .pre .2,
+      holds (turn .before .loop .inv .1) (fewer (row-end _ _ (turn .loop-test .taken)) (start .pre .3)),
+    )
 
 loop-again : tie.Need-loop-again Inv-loop μ-loop
-loop-again c = (omega arith, rows-more _ _ _ _ _ _ _ (c .before .before .before .before .before .before .before .before .loop .inv .1) (c .before .before .before .before .fill-row .ensures))
+loop-again c =
+    let filled = c .before .before .before .before in
+    let turn = filled .before .before .before in
+    (omega arith, rows-more _ _ _ _ _ _ _ (turn .before .loop .inv .1) (filled .fill-row .ensures))
 
 returns : tie.Need-returns Inv-loop μ-loop
-returns c = let e : c .before .loop .row ≡ c .before .before .before .before .before .before .before .before .args .side = omega arith in rw e at (c .before .loop .inv .1)
+returns c =
+    let lent = c .before .before .before .before in
+    let start = lent .before .before .before .before in
+    let e : c .before .loop .row ≡ start .args .side = omega arith in
+    rw e at (c .before .loop .inv .1)
 
 pub fill-product-spec : {M : Type 1} → statement M
 fill-product-spec =

@@ -10,8 +10,11 @@ use Rattle.matrices.proofs.Fills.{nothing, one-more, fewer, done}
 use Rattle.products.proofs.sums.fill_state.Statement.{statement}
 use Rattle.products.proofs.sums.fill_state.Tie as tie
 
+-- `turn` is where a turn begins, `lent` where the buffers that are read are known
+
 abbrev Inv-loop : tie.InvT-loop
-Inv-loop ar ai br bi reals₀ imags₀ side row₀ reals imags row = (row ≤ side) × Filled 0 row (λ r. stateDot (buffers ar ai) (r * side) (buffers br bi) side) (buffers reals₀ imags₀) (buffers reals imags)
+Inv-loop ar ai br bi reals₀ imags₀ side row₀ reals imags row =
+    (row ≤ side) × Filled 0 row (λ r. stateDot (buffers ar ai) (r * side) (buffers br bi) side) (buffers reals₀ imags₀) (buffers reals imags)
 
 abbrev μ-loop : tie.MeasureT-loop
 μ-loop ar ai br bi reals₀ imags₀ side row₀ reals imags row = side - row
@@ -20,13 +23,23 @@ loop-holds : tie.Need-loop-holds Inv-loop μ-loop
 loop-holds c = (omega arith, nothing _ _ _)
 
 mul-row-dot : tie.Need-mul-row-dot Inv-loop μ-loop
-mul-row-dot c = record { fits = start-fits _ _ (c .loop-test .taken) (c .before .before .before .before .before .before .before .before .pre .0) }
+mul-row-dot c =
+    let lent = c .before .before .before .before in
+    let start = lent .before .before .before .before in
+    record { fits = start-fits _ _ (c .loop-test .taken) (start .pre .0) }
 
 row-dot-requires : tie.Need-row-dot-requires Inv-loop μ-loop
-row-dot-requires c κs = (fewer (row-end _ _ (c .loop-test .taken)) (c .before .before .before .before .before .before .before .before .pre .1), c .before .before .before .before .before .before .before .before .pre .2)
+row-dot-requires c κs =
+    let lent = c .before .before .before .before in
+    let start = lent .before .before .before .before in
+    (fewer (row-end _ _ (c .loop-test .taken)) (start .pre .1), start .pre .2)
 
 loop-again : tie.Need-loop-again Inv-loop μ-loop
-loop-again c = (omega arith, one-more (omega arith) (c .before .before .before .before .before .before .before .before .before .loop .inv .1) (c .before .before .before .before .write-at .ensures) (c .before .before .before .before .before .before .before .row-dot .ensures))
+loop-again c =
+    let written = c .before .before .before .before in
+    let dotted = written .before .before .before in
+    let turn = dotted .before in
+    (omega arith, one-more (omega arith) (turn .before .loop .inv .1) (written .write-at .ensures) (dotted .row-dot .ensures))
 
 returns : tie.Need-returns Inv-loop μ-loop
 returns c = done (c .before .loop .inv) (c .loop-test .left)

@@ -10,6 +10,8 @@ use Rattle.products.proofs.Dots.{state-none, state-more}
 use Rattle.products.proofs.sums.row_dot.Statement.{statement}
 use Rattle.products.proofs.sums.row_dot.Tie as tie
 
+-- `turn` is where a turn begins, `lent` where the buffers that are read are known
+
 abbrev Inv-loop : tie.InvT-loop
 Inv-loop ar ai br bi from side sum₀ inner₀ sum inner = (inner ≤ side) × (sum ≡ stateDot (buffers ar ai) from (buffers br bi) inner)
 
@@ -20,10 +22,18 @@ loop-holds : tie.Need-loop-holds Inv-loop μ-loop
 loop-holds c = (omega arith, zero-is ∙ state-none _ _ _)
 
 loop-again : tie.Need-loop-again Inv-loop μ-loop
-loop-again c = (omega arith, state-more _ _ _ _ (c .before .before .before .before .loop .inv .1) (c .before .before .read-at .ensures) (c .before .read-at2 .ensures) (c .add-product .ensures))
+loop-again c =
+    let read-b = c .before in
+    let read-a = read-b .before in
+    let turn = read-a .before in
+    (omega arith, state-more _ _ _ _ (turn .before .loop .inv .1) (read-a .read-at .ensures) (read-b .read-at2 .ensures) (c .add-product .ensures))
 
 returns : tie.Need-returns Inv-loop μ-loop
-returns c = let e : c .before .loop .inner ≡ c .before .before .before .before .before .before .args .side = omega arith in rw e at (c .before .loop .inv .1)
+returns c =
+    let lent = c .before .before in
+    let start = lent .before .before .before .before in
+    let e : c .before .loop .inner ≡ start .args .side = omega arith in
+    rw e at (c .before .loop .inv .1)
 
 pub row-dot-spec : {M : Type 1} → statement M
 row-dot-spec =

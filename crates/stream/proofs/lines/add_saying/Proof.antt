@@ -16,8 +16,10 @@ returns-3 c = rw (c .before .before .before .before .before .enum-told3 .given .
 
 returns-4 : tie.Need-returns-4
 returns-4 c =
-    rw (c .before .before .before .before .before .before .before .before .before .before .before .reply .given .1, ← c .before .before .before .number-of .ensures)
-    (then (c .before .before .before .before .before .before .before .add4 .ensures) (c .before .before .add-number .ensures))
+    let numbered = c .before .before .before in
+    let worded = numbered .before .before .before .before in
+    let told = worded .before .before .before .before in
+    rw (told .reply .given .1, ← numbered .number-of .ensures) (then (worded .add4 .ensures) (c .before .before .add-number .ensures))
 
 pub add-saying-spec : {M : Type 1} → statement M
 add-saying-spec =

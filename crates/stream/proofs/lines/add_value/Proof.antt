@@ -8,7 +8,11 @@ returns : tie.Need-returns
 returns c = rw (c .enum-told .given .1) (nothing 27 _ _)
 
 returns-2 : tie.Need-returns-2
-returns-2 c = rw (c .before .before .before .before .before .before .before .before .before .before .reply .given .1) (then (c .before .before .before .before .before .before .add .ensures) (c .before .before .add-number .ensures))
+returns-2 c =
+    let numbered = c .before .before in
+    let worded = numbered .before .before .before .before in
+    let told = worded .before .before .before .before in
+    rw (told .reply .given .1) (then (worded .add .ensures) (numbered .add-number .ensures))
 
 returns-3 : tie.Need-returns-3
 returns-3 c = rw (c .enum-told2 .given .1) (nothing 27 _ _)

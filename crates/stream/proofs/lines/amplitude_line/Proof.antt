@@ -6,16 +6,25 @@ use borrow.Author.Needs.{needs}
 use Rattle.stream.proofs.lines.amplitude_line.Statement.{statement}
 use Rattle.stream.proofs.lines.amplitude_line.Tie as tie
 
+-- the buffer has room for the longest such line
+room : (c : tie.After-add) → 57 ≤ length (c .before .before .before .args .out .now)
+room c = search needs
+
 returns : tie.Need-returns
 returns c =
-    let room : 57 ≤ length (c .before .before .before .before .before .before .before .before .before .before .before .before .before .before .before .before .before .before .args .out .now) = search needs in
-    line room
-    (then (c .before .before .before .before .before .before .before .before .before .before .before .before .before .before .before .add .ensures)
-    (then (c .before .before .before .before .before .before .before .before .before .before .before .before .before .add-number .ensures)
-    (then (c .before .before .before .before .before .before .before .before .before .before .add2 .ensures)
-    (then (c .before .before .before .before .before .before .before .before .add-bits .ensures)
-    (then (c .before .before .before .before .before .add3 .ensures)
-    (then (c .before .before .before .add-bits2 .ensures) (c .add4 .ensures)))))))
+    let im = c .before .before .before in
+    let next = im .before .before in
+    let re = next .before .before .before in
+    let blank = re .before .before in
+    let index = blank .before .before .before in
+    let word = index .before .before in
+    line (room word)
+    (then (word .add .ensures)
+    (then (index .add-number .ensures)
+    (then (blank .add2 .ensures)
+    (then (re .add-bits .ensures)
+    (then (next .add3 .ensures)
+    (then (im .add-bits2 .ensures) (c .add4 .ensures)))))))
 
 pub amplitude-line-spec : {M : Type 1} → statement M
 amplitude-line-spec =

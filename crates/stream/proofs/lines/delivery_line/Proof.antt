@@ -6,16 +6,25 @@ use borrow.Author.Needs.{needs}
 use Rattle.stream.proofs.lines.delivery_line.Statement.{statement}
 use Rattle.stream.proofs.lines.delivery_line.Tie as tie
 
+-- the buffer has room for the longest such line
+room : (c : tie.After-add) → 106 ≤ length (c .before .before .before .args .out .now)
+room c = search needs
+
 returns : tie.Need-returns
 returns c =
-    let room : 106 ≤ length (c .before .before .before .before .before .before .before .before .before .before .before .before .before .before .before .before .before .args .out .now) = search needs in
-    line room
-    (then (c .before .before .before .before .before .before .before .before .before .before .before .before .before .before .add .ensures)
-    (then (c .before .before .before .before .before .before .before .before .before .before .before .before .add-number .ensures)
-    (then (c .before .before .before .before .before .before .before .before .before .before .add-saying .ensures)
-    (then (c .before .before .before .before .before .before .before .add2 .ensures)
-    (then (c .before .before .before .before .before .add-number2 .ensures)
-    (then (c .before .before .before .add-value .ensures) (c .add3 .ensures)))))))
+    let value = c .before .before .before in
+    let count = value .before .before in
+    let second-word = count .before .before in
+    let reply = second-word .before .before .before in
+    let index = reply .before .before in
+    let word = index .before .before in
+    line (room word)
+    (then (word .add .ensures)
+    (then (index .add-number .ensures)
+    (then (reply .add-saying .ensures)
+    (then (second-word .add2 .ensures)
+    (then (count .add-number2 .ensures)
+    (then (value .add-value .ensures) (c .add3 .ensures)))))))
 
 pub delivery-line-spec : {M : Type 1} → statement M
 delivery-line-spec =

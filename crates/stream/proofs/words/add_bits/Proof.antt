@@ -17,10 +17,11 @@ add-requires c κs = omega (arith, at-most (c .before .before), c .before .befor
 
 returns : tie.Need-returns
 returns c =
-    let x = c .before .before .before .before .before .before .before .before .before .args .x in
-    let b = c .before .before .before .before .before .before .before .bits-of in
-    let d = c .before .before .before .before .before .hex in
-    let most = at-most (c .before .before .before .before .before) in
+    let spelled = c .before .before .before .before .before in
+    let b = spelled .before .before .bits-of in
+    let d = spelled .hex in
+    let x = spelled .before .before .before .before .args .x in
+    let most = at-most spelled in
     let is = bits-is (d .result) (b .result) x most (d .ensures .1 .0 .0) (b .ensures) in
     these (bits x) 16 (d .ensures .1 .1 ∙ is) (omega (arith, most, d .ensures .0 .1)) (c .before .before .add .ensures)
 

@@ -17,10 +17,12 @@ add-requires c κs = omega (arith, at-most (c .before .before), c .before .befor
 
 returns : tie.Need-returns
 returns c =
-    let n = c .before .before .before .before .before .before .before .before .args .n in
-    let d = c .before .before .before .before .before .decimal in
-    let most = at-most (c .before .before .before .before .before) in
-    these (decimal n) 20 (d .ensures .1 .1 ∙ decimal-is (d .result) n most (d .ensures .1 .0)) (omega (arith, most, d .ensures .0 .1)) (c .before .before .add .ensures)
+    let spelled = c .before .before .before .before .before in
+    let d = spelled .decimal in
+    let n = spelled .before .before .before .args .n in
+    let most = at-most spelled in
+    these (decimal n) 20 (d .ensures .1 .1 ∙ decimal-is (d .result) n most (d .ensures .1 .0))
+    (omega (arith, most, d .ensures .0 .1)) (c .before .before .add .ensures)
 
 pub add-number-spec : {M : Type 1} → statement M
 add-number-spec =

@@ -68,9 +68,12 @@ terms m e n d p g x y z =
     large h (inl i) (inr j) = mul-le-mul {n₁ = 2 ^ 11} {m₁ = hid binary64} (some-factor m (x .some)) (y .full j)
     large h (inl i) (inl j) = absurd (none e d g i j h)
 
+-- `factors` is the place where the fields of x and y are read
+
 aligned-requires : tie.Need-aligned-requires
 aligned-requires c κs =
-    let multiplied = c .before .before .before .before .before .before in
+    let factors = c .before .before in
+    let multiplied = factors .before .before .before .before in
     let s = multiplied .before .before in
     let a = s .args in
     subst (λ (w : ℕ). Terms binary64 w (a .x .e + a .y .e + 5) (a .z .m * 2 ^ 10) (a .z .e + (low binary64 + 6))) (sym (multiplied .multiply .ensures))
@@ -78,7 +81,8 @@ aligned-requires c κs =
 
 returns : tie.Need-returns
 returns c =
-    let multiplied = c .before .before .before .before .before .before .before in
+    let factors = c .before .before .before in
+    let multiplied = factors .before .before .before .before in
     let a = multiplied .before .before .args in
     let s = unlike (a .x .neg) (a .y .neg) in
     let p = a .x .m * 2 ^ a .x .e * (a .y .m * 2 ^ a .y .e) in

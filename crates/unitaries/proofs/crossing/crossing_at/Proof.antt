@@ -7,10 +7,19 @@ use Rattle.unitaries.proofs.crossing.crossing_at.Statement.{statement}
 use Rattle.unitaries.proofs.crossing.crossing_at.Tie as tie
 
 returns : tie.Need-returns
-returns c = zero-is ∙ off-crossing (c .before .before .before .before .args .matrix) _ _ _ (λ e. c .if1 .taken (c .before .before .without-target .ensures ∙ e ∙ sym (c .before .without-target2 .ensures)))
+returns c =
+    let column = c .before in
+    let row = column .before in
+    let start = row .before .before in
+    zero-is ∙ off-crossing (start .args .matrix) _ _ _
+    (λ e. c .if1 .taken (row .without-target .ensures ∙ e ∙ sym (column .without-target2 .ensures)))
 
 returns-2 : tie.Need-returns-2
-returns-2 c = on-crossing (c .before .before .before .before .before .args .matrix) _ _ _ (sym (c .before .before .before .without-target .ensures) ∙ c .before .if1 .left ∙ c .before .before .without-target2 .ensures)
+returns-2 c =
+    let column = c .before .before in
+    let row = column .before in
+    let start = row .before .before in
+    on-crossing (start .args .matrix) _ _ _ (sym (row .without-target .ensures) ∙ c .before .if1 .left ∙ column .without-target2 .ensures)
 
 pub crossing-at-spec : {M : Type 1} → statement M
 crossing-at-spec =

@@ -8,7 +8,9 @@ use Rattle.unitaries.proofs.crossing.without_target.Statement.{statemen
 use Rattle.unitaries.proofs.crossing.without_target.Tie as tie
 
 mul-result : tie.Need-mul-result
-mul-result c = let l : c .args .target ≤ 6 = omega arith in rw (side-is _ l) (record { fits = omega (arith, bit-part-lt (c .args .target) (c .args .i) (omega arith)) })
+mul-result c =
+    let l : c .args .target ≤ 6 = omega arith in
+    rw (side-is _ l) (record { fits = omega (arith, bit-part-lt (c .args .target) (c .args .i) (omega arith)) })
 
 sub-result : tie.Need-sub-result
 sub-result c = let l : c .args .target ≤ 6 = omega arith in rw (side-is _ l) (bit-part-le _ _)

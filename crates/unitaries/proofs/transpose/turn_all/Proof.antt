@@ -24,13 +24,23 @@ loop-holds : tie.Need-loop-holds Inv-loop μ-loop
 loop-holds c = (omega arith, turned-none _ _)
 
 turn-at-requires : tie.Need-turn-at-requires Inv-loop μ-loop
-turn-at-requires c κs = (c .before .before .loop-test .taken, c .before .before .before .before .before .before .pre .0, same-holds (c .before .before .before .loop .inv .1 .size) (c .before .before .before .before .before .before .pre .1))
+turn-at-requires c κs =
+    let turn = c .before .before in
+    let loop = turn .before in
+    let start = loop .before .before .before in
+    (turn .loop-test .taken, start .pre .0, same-holds (loop .loop .inv .1 .size) (start .pre .1))
 
 loop-again : tie.Need-loop-again Inv-loop μ-loop
-loop-again c = (omega (arith, c .before .before .before .before .before .before .before .loop-test .taken), turned-more _ _ (c .before .before .before .before .before .before .before .loop-test .taken) _ _ _ (c .before .before .before .before .before .before .before .before .loop .inv .1) (c .before .before .before .before .turn-at .ensures))
+loop-again c =
+    let turned = c .before .before .before .before in
+    let turn = turned .before .before .before in
+    (omega (arith, turn .loop-test .taken), turned-more _ _ (turn .loop-test .taken) _ _ _ (turn .before .loop .inv .1) (turned .turn-at .ensures))
 
 returns : tie.Need-returns Inv-loop μ-loop
-returns c = let e : c .before .loop .place ≡ c .before .before .before .before .args .side * c .before .before .before .before .args .side = omega arith in rw e at (c .before .loop .inv .1)
+returns c =
+    let start = c .before .before .before .before in
+    let e : c .before .loop .place ≡ start .args .side * start .args .side = omega arith in
+    rw e at (c .before .loop .inv .1)
 
 pub turn-all-spec : {M : Type 1} → statement M
 turn-all-spec =

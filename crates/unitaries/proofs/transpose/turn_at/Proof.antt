@@ -10,10 +10,16 @@ returns : tie.Need-returns
 returns c = left-alone _ (c .before .mirror-of .ensures) (c .if1 .taken)
 
 cross-requires : tie.Need-cross-requires
-cross-requires c κs = (fewer (omega arith) (c .before .before .before .before .before .before .pre .2), fewer (omega (arith, mirror-lt _ _ (c .before .before .before .before .before .before .pre .0), c .before .before .before .mirror-of .ensures)) (c .before .before .before .before .before .before .pre .2))
+cross-requires c κs =
+    let mirrored = c .before .before .before in
+    let start = mirrored .before .before .before in
+    (fewer (omega arith) (start .pre .2), fewer (omega (arith, mirror-lt _ _ (start .pre .0), mirrored .mirror-of .ensures)) (start .pre .2))
 
 returns-2 : tie.Need-returns-2
-returns-2 c = turned-at _ _ (c .before .before .before .before .before .before .before .before .mirror-of .ensures) (c .before .before .before .before .before .before .before .if1 .left) (c .before .before .before .before .cross .ensures)
+returns-2 c =
+    let crossed = c .before .before .before .before in
+    let first = crossed .before .before .before in
+    turned-at _ _ (first .before .mirror-of .ensures) (first .if1 .left) (crossed .cross .ensures)
 
 pub turn-at-spec : {M : Type 1} → statement M
 turn-at-spec =

@@ -42,13 +42,15 @@ store-number-field-requires-2 c κs =
 
 returns-2 : tie.Need-returns-2
 returns-2 c =
-    let mask = c .before .before .before .before .before .before .before in
-    rw (mask .before .before .before .shape2 .given .1) (stored-then (mask .store-mask2 .ensures) (c .before .before .store-floats-field .ensures))
+    let put = c .before .before in
+    let mask = put .before .before .before .before .before in
+    rw (mask .before .before .before .shape2 .given .1) (stored-then (mask .store-mask2 .ensures) (put .store-floats-field .ensures))
 
 returns-3 : tie.Need-returns-3
 returns-3 c =
-    let mask = c .before .before .before .before .before .before .before in
-    rw (mask .before .before .before .shape3 .given .1) (stored-then (mask .store-mask3 .ensures) (c .before .before .store-floats-field2 .ensures))
+    let put = c .before .before in
+    let mask = put .before .before .before .before .before in
+    rw (mask .before .before .before .shape3 .given .1) (stored-then (mask .store-mask3 .ensures) (put .store-floats-field2 .ensures))
 
 returns-5 : tie.Need-returns-5
 returns-5 c =
@@ -99,4 +101,4 @@ store-shape-spec =
     (λ c. search needs)
     returns-5
     (λ c. search needs)
-    (λ c. rw (c .before .before .before .before .before .before .shape6 .given .1) (c .before .before .store-floats-field3 .ensures)))
+    (λ c. let put = c .before .before in rw (put .before .before .before .before .shape6 .given .1) (put .store-floats-field3 .ensures)))
