@@ -10,7 +10,7 @@ ghost use Rattle.collapses.specs.Halves.{scaled, cleared, halfOf, Remade
 ghost use Rattle.judging.specs.Judging.{Seated};
 
 // A stretch of the chosen half.
-fn scale(reals: &mut [f64], imags: &mut [f64], from: usize, to: usize, r: f64)
+fn scale_part(reals: &mut [f64], imags: &mut [f64], from: usize, to: usize, r: f64)
     requires { ⌜ Stretch from to (here reals imags) ⌝ }
     ensures { λ _. ⌜ Remade (λ i. scaled r) from to (before reals imags) (after reals imags) ⌝ }
 {
@@ -23,7 +23,7 @@ fn scale(reals: &mut [f64], imags: &mut [f64], from: usize, to: usize, r: f64)
 }
 
 // A stretch of the other half.
-fn clear(reals: &mut [f64], imags: &mut [f64], from: usize, to: usize)
+fn clear_part(reals: &mut [f64], imags: &mut [f64], from: usize, to: usize)
     requires { ⌜ Stretch from to (here reals imags) ⌝ }
     ensures { λ _. ⌜ Remade (λ i. cleared) from to (before reals imags) (after reals imags) ⌝ }
 {
@@ -40,10 +40,10 @@ fn collapse_half(reals: &mut [f64], imags: &mut [f64], from: usize, to: usize, c
     ensures { λ _. ⌜ Remade (λ i. halfOf chosen r) from to (before reals imags) (after reals imags) ⌝ }
 {
     if chosen {
-        scale(reals, imags, from, to, r);
+        scale_part(reals, imags, from, to, r);
         return;
     }
-    clear(reals, imags, from, to);
+    clear_part(reals, imags, from, to);
 }
 
 pub fn collapse(reals: &mut [f64], imags: &mut [f64], n: u32, target: u32, outcome: u8, r: f64)

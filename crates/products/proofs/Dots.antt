@@ -13,7 +13,7 @@ use Rattle.book.specs.declared.Amplitude.{Amplitude}
 use Rattle.matrices.proofs.Fills.{join, one-more, again, told, stands}
 use Rattle.matrices.proofs.Sides.{next-row}
 use Rattle.matrices.specs.Filled.{Filled}
-use Rattle.products.specs.Sums.{rowSum, rowDot, product, stateDot}
+use Rattle.products.specs.Sums.{rowSum, rowDot, productAt, stateDot}
 
 pub dot-none : (a b : State) → amplitude nought nought ≡ dot a b 0
 unfolding dot
@@ -32,8 +32,8 @@ dot-same a a′ b b′ (suc n) f g =
     rw (before, f n (omega arith), g n (omega arith))
 
 -- a row of the product is a stretch of it
-row-of : (side row : ℕ) (a b : Buffers) (j : ℕ) → j < side → rowDot side (row * side) a b side j ≡ product side a b (row * side + j)
-unfolding product
+row-of : (side row : ℕ) (a b : Buffers) (j : ℕ) → j < side → rowDot side (row * side) a b side j ≡ productAt side a b (row * side + j)
+unfolding productAt
 row-of side row a b j l = rw (digits-div row l, digits-mod row l)
 
 -- ---- the turns of the loops
@@ -57,8 +57,8 @@ unfolding rowDot rowSum
 row-more side from k a aa bb b₀ b b′ inv p w = told (again inv w) (λ j l. dot-more _ _ k (inv .here j l) p refl)
 
 -- one row more of the product
-pub rows-more : (side row : ℕ) (aa bb b₀ b b′ : Buffers) → Filled 0 (row * side) (product side aa bb) b₀ b
-    → Filled (row * side) side (rowDot side (row * side) aa bb side) b b′ → Filled 0 ((row + 1) * side) (product side aa bb) b₀ b′
+pub rows-more : (side row : ℕ) (aa bb b₀ b b′ : Buffers) → Filled 0 (row * side) (productAt side aa bb) b₀ b
+    → Filled (row * side) side (rowDot side (row * side) aa bb side) b b′ → Filled 0 ((row + 1) * side) (productAt side aa bb) b₀ b′
 rows-more side row aa bb b₀ b b′ inv w = rw (← next-row) (join (omega arith) inv w (λ j l. row-of side row aa bb j l))
 
 -- one inner index more of a row times a state

@@ -16,7 +16,7 @@ use Rattle.matrices.proofs.Fills.{whole}
 use Rattle.matrices.proofs.Judged.{most-is, held-places, wrong-size, wrong-length, right}
 use Rattle.matrices.proofs.Sides.{shifted, side-is}
 use Rattle.matrices.specs.Filled.{Holds, Filled}
-use Rattle.products.specs.Sums.{rowDot, product, stateDot}
+use Rattle.products.specs.Sums.{rowDot, productAt, stateDot}
 
 -- ---- the refusals of both products
 
@@ -43,8 +43,8 @@ out-lengths x y size b e = right-lengths size b (neither (x || y) (badLength siz
 
 module _ (n : ℕ) (aa bb b b′ : Buffers) (ok : badSize mostMatrix n ≡ false) where
   product-done : (badLength (entries n) aa || badLength (entries n) bb || badLength (entries n) b) ≡ false
-      → Filled 0 (entries n) (product (2 ^ n) aa bb) b b′ → Does (Book.product n aa bb b) Taken b′
-  unfolding first productTests heldDense product rowDot
+      → Filled 0 (entries n) (productAt (2 ^ n) aa bb) b b′ → Does (Book.product n aa bb b) Taken b′
+  unfolding first productTests heldDense productAt rowDot
   product-done e w =
       let (r, i) = out-lengths (badLength (entries n) aa) (badLength (entries n) bb) (entries n) b e in
       right n (badLength (entries n) aa || badLength (entries n) bb || badLength (entries n) b) [] b _ ok e refl refl (whole w r i (λ k l. refl))
@@ -68,7 +68,7 @@ module _ (n : ℕ) (aa bb b : Buffers) (ok : badSize mostMatrix n ≡ false) whe
 
   pub product-filled : (b′ : Buffers)
       → (badLength (shifted n * shifted n) aa || badLength (shifted n * shifted n) bb || badLength (shifted n * shifted n) b) ≡ false
-      → Filled 0 (shifted n * shifted n) (product (shifted n) aa bb) b b′ → Does (Book.product n aa bb b) Taken b′
+      → Filled 0 (shifted n * shifted n) (productAt (shifted n) aa bb) b b′ → Does (Book.product n aa bb b) Taken b′
   product-filled b′ e w = product-done n aa bb b b′ ok (rw is at e) (rw is at w)
 
   pub state-long : (badLength (shifted n * shifted n) aa || badLength (shifted n) bb || badLength (shifted n) b) ≡ true

@@ -19,9 +19,9 @@ unfoldable pub rowDot : ℕ → ℕ → Buffers → Buffers → ℕ → State
 rowDot side from a b inner j = dot (λ k. at a (from + k)) (λ k. at b (k * side + j)) inner
 
 -- A·B, place by place
-unfoldable pub product : ℕ → Buffers → Buffers → State
+unfoldable pub productAt : ℕ → Buffers → Buffers → State
 unfolding rowDot
-product side a b place = rowDot side (place / side * side) a b side (place % side)
+productAt side a b place = rowDot side (place / side * side) a b side (place % side)
 
 -- a row of A times a state
 unfoldable pub stateDot : Buffers → ℕ → Buffers → ℕ → Amplitude

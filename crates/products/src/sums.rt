@@ -10,7 +10,7 @@ ghost use Rattle.book.specs.Lent.{before, after, here};
 ghost use Rattle.book.specs.Matrices.{addProduct};
 ghost use Rattle.book.specs.State.{amplitude};
 ghost use Rattle.matrices.specs.Filled.{Holds, Filled};
-ghost use Rattle.products.specs.Sums.{Small, rowSum, rowDot, product, stateDot};
+ghost use Rattle.products.specs.Sums.{Small, rowSum, rowDot, productAt, stateDot};
 
 // Product a·b added to a sum.
 fn add_product(sum: Amplitude, a: Amplitude, b: Amplitude) -> Amplitude
@@ -94,7 +94,7 @@ pub(crate) fn fill_product(
     side: usize,
 )
     requires { ⌜ (side ≤ 64) × Holds (side * side) (here ar ai) × Holds (side * side) (here br bi) × Holds (side * side) (here reals imags) ⌝ }
-    ensures { λ _. ⌜ Filled 0 (side * side) (product side (before ar ai) (before br bi)) (before reals imags) (after reals imags) ⌝ }
+    ensures { λ _. ⌜ Filled 0 (side * side) (productAt side (before ar ai) (before br bi)) (before reals imags) (after reals imags) ⌝ }
 {
     let mut row = 0;
     while row < side {

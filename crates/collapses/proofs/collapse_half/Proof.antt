@@ -6,12 +6,12 @@ use Rattle.collapses.proofs.collapse_half.Tie as tie
 returns : tie.Need-returns
 returns c =
     let made = c .before .before .before .before in
-    rw (made .before .before .before .if1 .taken) (made .scale .ensures)
+    rw (made .before .before .before .if1 .taken) (made .scale-part .ensures)
 
 returns-2 : tie.Need-returns-2
 returns-2 c =
     let made = c .before .before .before .before in
-    rw (made .before .before .before .if1 .left) (made .clear .ensures)
+    rw (made .before .before .before .if1 .left) (made .clear-part .ensures)
 
 pub collapse-half-spec : {M : Type 1} → statement M
 collapse-half-spec =

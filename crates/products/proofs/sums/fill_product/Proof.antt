@@ -6,7 +6,7 @@ use borrow.Author.Needs.{needs}
 use native.Mathlib.Omega.{arith}
 use Rattle.book.specs.Answers.{buffers}
 use Rattle.matrices.specs.Filled.{Filled}
-use Rattle.products.specs.Sums.{product}
+use Rattle.products.specs.Sums.{productAt}
 use Rattle.matrices.proofs.Sides.{row-end, square-le, start-fits}
 use Rattle.products.proofs.Dots.{rows-more}
 use Rattle.matrices.proofs.Fills.{empty, fewer, holds}
@@ -17,7 +17,7 @@ use Rattle.products.proofs.sums.fill_product.Tie as tie
 
 abbrev Inv-loop : tie.InvT-loop
 Inv-loop ar ai br bi reals₀ imags₀ side row₀ reals imags row =
-    (row ≤ side) × Filled 0 (row * side) (product side (buffers ar ai) (buffers br bi)) (buffers reals₀ imags₀) (buffers reals imags)
+    (row ≤ side) × Filled 0 (row * side) (productAt side (buffers ar ai) (buffers br bi)) (buffers reals₀ imags₀) (buffers reals imags)
 
 abbrev μ-loop : tie.MeasureT-loop
 μ-loop ar ai br bi reals₀ imags₀ side row₀ reals imags row = side - row

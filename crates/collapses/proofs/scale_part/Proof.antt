@@ -1,4 +1,4 @@
--- `collapses::scale` meets its contract: one place more in each turn. Assumes nothing.
+-- `collapses::scale_part` meets its contract: one place more in each turn. Assumes nothing.
 use Prim.Native.Nat.{_-_, _≤_}
 use mathlib.Core.Path.{refl}
 use native.Mathlib.Omega.{arith}
@@ -6,8 +6,8 @@ use borrow.Author.Needs.{needs}
 use Rattle.book.specs.Answers.{buffers}
 use Rattle.collapses.specs.Halves.{scaled, Remade}
 use Rattle.collapses.proofs.Stretches.{none, one-more, done}
-use Rattle.collapses.proofs.scale.Statement.{statement}
-use Rattle.collapses.proofs.scale.Tie as tie
+use Rattle.collapses.proofs.scale_part.Statement.{statement}
+use Rattle.collapses.proofs.scale_part.Tie as tie
 
 abbrev Inv-loop : tie.InvT-loop
 Inv-loop reals₀ imags₀ from to r i₀ reals imags i = (from ≤ i) × (i ≤ to) × Remade (λ k. scaled r) from i (buffers reals₀ imags₀) (buffers reals imags)
@@ -27,8 +27,8 @@ loop-again c =
 returns : tie.Need-returns Inv-loop μ-loop
 returns c = done _ (c .before .loop .inv .1) (c .loop-test .left) (c .before .loop .inv .2)
 
-pub scale-spec : {M : Type 1} → statement M
-scale-spec =
+pub scale-part-spec : {M : Type 1} → statement M
+scale-part-spec =
     tie.close
     (tie.spec
     Inv-loop

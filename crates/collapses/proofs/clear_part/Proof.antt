@@ -1,4 +1,4 @@
--- `collapses::clear` meets its contract: one place more in each turn. Assumes nothing.
+-- `collapses::clear_part` meets its contract: one place more in each turn. Assumes nothing.
 use Prim.Native.Nat.{_-_, _≤_}
 use native.Mathlib.Omega.{arith}
 use borrow.Author.Needs.{needs}
@@ -6,8 +6,8 @@ use Rattle.book.specs.Answers.{buffers}
 use Rattle.collapses.specs.Halves.{cleared, Remade}
 use Rattle.collapses.proofs.Stretches.{none, one-more, done}
 use Rattle.book.proofs.Zero.{zero-is}
-use Rattle.collapses.proofs.clear.Statement.{statement}
-use Rattle.collapses.proofs.clear.Tie as tie
+use Rattle.collapses.proofs.clear_part.Statement.{statement}
+use Rattle.collapses.proofs.clear_part.Tie as tie
 
 abbrev Inv-loop : tie.InvT-loop
 Inv-loop reals₀ imags₀ from to i₀ reals imags i = (from ≤ i) × (i ≤ to) × Remade (λ k. cleared) from i (buffers reals₀ imags₀) (buffers reals imags)
@@ -24,8 +24,8 @@ loop-again c = (omega arith, omega arith, one-more _ (c .before .before .pre) (c
 returns : tie.Need-returns Inv-loop μ-loop
 returns c = done _ (c .before .loop .inv .1) (c .loop-test .left) (c .before .loop .inv .2)
 
-pub clear-spec : {M : Type 1} → statement M
-clear-spec =
+pub clear-part-spec : {M : Type 1} → statement M
+clear-part-spec =
     tie.close
     (tie.spec
     Inv-loop
