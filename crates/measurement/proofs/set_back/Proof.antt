@@ -12,7 +12,7 @@ returns c =
     let reset = none .before .before .before in
     let outcome = reset .before .before in
     rw (eq-eqb _ _ (outcome .if1 .taken), eq-eqb _ _ (reset .if2 .taken))
-    (x-follows (outcome .before .before .before .before .pre) (rw (none .of .ensures) at (applied .x-apply .ensures)))
+    (x-follows (outcome .before .before .before .before .pre) (rw (none .of .ensures) at (applied .on-pairs .ensures)))
 
 pub set-back-spec : {M : Type 1} → statement M
 set-back-spec =
