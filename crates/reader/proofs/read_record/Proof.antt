@@ -55,7 +55,8 @@ third : (k : tie.After-known-told3)
 third k = sym (k .before .before .before .number-field3 .ensures .0) ∙ k .before .code .given .1
 
 fourth : (k : tie.After-known-told4)
-    → let n = k .before .target .given .0 in numberField 0x04 1 (back4 k .before .code .given .0 .1 .0) (bytes (back2 (back3 (back4 k)))) ≡ Number (n .0) (n .1 .0)
+    → let n = k .before .target .given .0 in
+    numberField 0x04 1 (back4 k .before .code .given .0 .1 .0) (bytes (back2 (back3 (back4 k)))) ≡ Number (n .0) (n .1 .0)
 fourth k = sym (k .before .before .before .number-field4 .ensures .0) ∙ k .before .target .given .1
 
 -- ---- each way out
