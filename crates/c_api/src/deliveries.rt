@@ -30,7 +30,8 @@ pub extern "C" fn gate_bench_deliver(
     reals: &mut [f64],
     imags: &mut [f64],
 ) -> u32
-    ensures { λ r. ⌜ TellsDelivery (Book.deliver (Book.session n number (now (count .entry))) (before reals imags) (now (bytes .entry))) r (now (count .exit)) (after reals imags) ⌝ }
+    ensures { λ r. ⌜ TellsDelivery (Book.deliver (Book.session n number (now (count .entry))) (before reals imags) (now (bytes .entry)))
+        r (now (count .exit)) (after reals imags) ⌝ }
 {
     let session = Session::resume(n, number, *count);
     let delivered = session.deliver(bytes, reals, imags);

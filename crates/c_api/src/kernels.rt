@@ -1,4 +1,4 @@
-// The kernels of gates.rs and measurement.rs. `ones` has a bit set for each control; its Controls is written out, so that `search` proves each wrapper by itself.
+// The kernels of gates.rs and measurement.rs. `ones` has a bit set for each control; its Controls is written out, so that `search` proves each wrapper.
 use answers::tell;
 use book::Angle;
 use book::Angles;

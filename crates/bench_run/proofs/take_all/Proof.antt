@@ -7,7 +7,8 @@ use Rattle.bench_run.proofs.take_all.Tie as tie
 
 abbrev Inv-loop : tie.InvT-loop
 Inv-loop input frame₀ reals₀ imags₀ out₀ chunk₀ taker₀ turns₀ frame reals imags out chunk taker turns =
-    (length frame ≡ length frame₀) × (length reals ≡ length reals₀) × (length imags ≡ length imags₀) × (length out ≡ length out₀) × (length chunk ≡ length chunk₀)
+    (length frame ≡ length frame₀) × (length reals ≡ length reals₀) × (length imags ≡ length imags₀)
+    × (length out ≡ length out₀) × (length chunk ≡ length chunk₀)
 
 abbrev μ-loop : tie.MeasureT-loop
 μ-loop input frame₀ reals₀ imags₀ out₀ chunk₀ taker₀ turns₀ frame reals imags out chunk taker turns = turns

@@ -12,7 +12,8 @@ cast-result c =
     let sized = c .before in
     let wrote = sized .before .before .before .before in
     let read = wrote .before .before .before in
-    let out = read .before .before .before .before .before .before .args .out .now in
+    let made = read .before .before in
+    let out = made .before .before .before .before .args .out .now in
     omega (arith, size-fits (read .it .given .0 .0) out (sym (wrote .write-record .ensures .0) ∙ sized .size .given .1))
 
 returns : tie.Need-returns

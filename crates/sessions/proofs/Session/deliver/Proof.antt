@@ -19,7 +19,8 @@ returns c =
 
 counted-requires : tie.Need-counted-requires
 counted-requires c κs =
-    let told = c .before .before .before .before .before .before .before in
+    let acted = c .before .before .before .before in
+    let told = acted .before .before .before in
     told .before .before .stand .ensures .1 (told .enum-told2 .given .1)
 
 returns-2 : tie.Need-returns-2
