@@ -7,18 +7,17 @@ use mathlib.Core.Path.{_≡_}
 use lib.Dec.{ltb}
 use lib.Ieee.{Float, nan}
 use lib.ListN.{length, drop, getD}
+use Rattle.book.specs.Answers.{taken, refused, says}
 use Rattle.book.specs.Gates.{nought, anglesOf}
 use Rattle.book.specs.Records.{partsOf, Row, plain, angled, eight, second, forced, noisy, unlisted, rowOf, recordWith}
 use Rattle.book.specs.State.{controlled}
 use Rattle.book.specs.declared.Angle.{Angle}
 use Rattle.book.specs.declared.Angles.{Angles}
 use Rattle.book.specs.declared.Answer.{Answer}
-use Rattle.book.specs.declared.Answer.the-variants.{Taken, Refused}
 use Rattle.book.specs.declared.Gate.{Gate}
 use Rattle.book.specs.declared.Gate.the-variants.{Swap, Measure}
 use Rattle.book.specs.declared.Noise.{Noise}
 use Rattle.book.specs.declared.Record.{Record}
-use Rattle.book.specs.declared.Refusal.the-variants.{Room}
 use Rattle.book.specs.declared.Shape.{Shape}
 use Rattle.book.specs.declared.Shape.the-variants.{Plain, Angled, Eight, Second, Forced, Noisy}
 use Rattle.records.specs.RoundTrips.{Held}
@@ -62,7 +61,7 @@ tooFew fs xs = ltb (length fs) 6 || ltb (length xs) 8
 
 -- A record's numbers put into lent places: refusal 12 where there are too few, and then nothing changes.
 pub record Puts (r : Record) (fs : List ℕ) (xs : List Float) (answer : Answer) (fs′ : List ℕ) (xs′ : List Float) : Type 0 where
-  pub answers : answer ≡ cond (tooFew fs xs) (Refused Room) Taken
+  pub answers : says answer ≡ cond (tooFew fs xs) (refused 12) taken
   pub fields : fs′ ≡ cond (tooFew fs xs) fs (over (flatFields r) fs)
   pub numbers : xs′ ≡ cond (tooFew fs xs) xs (over (flatNumbers r) xs)
 
