@@ -4,9 +4,10 @@ use mathlib.Core.List.{List}
 use mathlib.Core.Option.{Option, some}
 use mathlib.Core.Path.{_≡_, refl, sym, ap, ap₂, _∙_}
 use Rattle.book.proofs.ExactlyOnce as Definitions
-use Rattle.book.specs.Answers.{Buffers}
+use Rattle.book.proofs.Gives.{gives-is}
+use Rattle.book.specs.Answers.{orDenied, Buffers}
 use Rattle.book.specs.Sessions as Book
-use Rattle.sessions.specs.Deliveries.{meant, started}
+use Rattle.sessions.specs.Deliveries.{meant, startedSays}
 use Rattle.sessions.specs.ExactlyOnce.{Delivering, none, call, ExactlyOnce}
 use Rattle.sessions.specs.declared.Session.{Session}
 use Rattle.sessions.specs.declared.Started.the-variants.{Fresh}
@@ -20,8 +21,8 @@ same-run none = refl
 same-run (call {more = more} d rest) = same-run rest ∙ ap₂ (λ (s : Book.Session) (b : Buffers). Book.deliverAll (bench s b) more) (d .next) (d .leaves)
 
 -- a fresh session is the definitions' fresh one
-fresh-means : {s : Session} {o : Option Book.Session} {f : Book.Session} → Fresh s ≡ started o → o ≡ some f → meant s ≡ f
-fresh-means {s} {o} {f} e q = let p : Fresh s ≡ started (some f) = e ∙ ap started q in cc p
+fresh-means : {s : Session} {o : Option Book.Session} {f : Book.Session} → startedSays (Fresh s) ≡ orDenied 1 o → o ≡ some f → meant s ≡ f
+fresh-means {s} {o} {f} e q = let p : some (meant s) ≡ some f = sym (gives-is 1 o e) ∙ q in cc p
 
 pub exactly-once : ExactlyOnce
 exactly-once n own b rs g fresh start ds all s b₁ run bytes one answer b₂ d =

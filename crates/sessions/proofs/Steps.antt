@@ -3,7 +3,7 @@
 use Prim.Native.Nat.{ℕ, zero, suc}
 use mathlib.Core.Bool.{false}
 use mathlib.Core.List.{List}
-use mathlib.Core.Option.{Option, some, none}
+use mathlib.Core.Option.{some, none}
 use mathlib.Core.Path.{_≡_, refl, sym, ap, _∙_, subst}
 use native.Mathlib.Omega.{arith}
 use Rattle.book.proofs.Calls.{refused-keeps, sized-right, sized-wrong}
@@ -11,12 +11,11 @@ use Rattle.book.proofs.Refusals.{sizes-numbered}
 use Rattle.book.specs.Answers.{numberOf, value, refused, says, Replied, said, replies, Test, first, Buffers, Outcome, accepts, Does}
 use Rattle.book.specs.Calls.{callOf, act}
 use Rattle.book.specs.Kernels.{sizeTests}
-use Rattle.book.specs.Records.{readRecord, readOf}
+use Rattle.book.specs.Records.{readRecord}
 use Rattle.book.specs.Sessions as Book
 use Rattle.book.specs.Sessions.{kept, counted, standing, takeRecord, takeRead, takeSized, deliver}
 use Rattle.book.specs.declared.Answer.{Answer}
 use Rattle.book.specs.declared.Answer.the-variants.{Taken, Value, Refused}
-use Rattle.book.specs.declared.Read.the-variants.{Record as Found, Refused as Unread}
 use Rattle.book.specs.declared.Record.{Record}
 use Rattle.book.specs.declared.Refusal.{Refusal}
 use Rattle.book.specs.declared.Reply.{Reply}
@@ -26,16 +25,6 @@ use Rattle.judging.specs.Judging.{verdict, Judges}
 use Rattle.sessions.specs.Deliveries.{meant, told, countedOf, behindSize, unsized, Delivers}
 use Rattle.sessions.specs.declared.Delivered.{Delivered}
 use Rattle.sessions.specs.declared.Session.{Session}
-
--- ---- which of the two was read
-
-pub found-is : {r : Record} (o : Option Record) → readOf o ≡ Found r → o ≡ some r
-found-is (some q) e = cc
-found-is none e = let z : _≡_ {A = ℕ} 0 1 = cc in absurd (omega arith)
-
-pub unread-is : {q : Refusal} (o : Option Record) → readOf o ≡ Unread q → o ≡ none
-unread-is (some r) e = let z : _≡_ {A = ℕ} 0 1 = cc in absurd (omega arith)
-unread-is none e = refl
 
 -- ---- the definition's delivery, in three cases
 

@@ -1,14 +1,12 @@
 -- What a session and an answer of this crate mean in 01's words, and a delivery's whole contract. Definitions only. Assumes nothing.
 use Prim.Native.Nat.{ℕ, zero, suc, _+_}
 use mathlib.Core.List.{[]}
-use mathlib.Core.Option.{Option, some, none}
 use mathlib.Core.Path.{_≡_}
-use Rattle.book.specs.Answers.{refused, Replied, said, replies, first, Buffers}
+use Rattle.book.specs.Answers.{numberOf, refused, Replied, said, replies, Gives, gives, denied, first, Buffers}
 use Rattle.book.specs.Kernels.{sizeTests}
 use Rattle.book.specs.Sessions as Book
 use Rattle.book.specs.declared.Answer.{Answer}
 use Rattle.book.specs.declared.Answer.the-variants.{Taken, Value, Refused}
-use Rattle.book.specs.declared.Refusal.the-variants.{Size}
 use Rattle.book.specs.declared.Reply.{Reply}
 use Rattle.book.specs.declared.Reply.the-variants.{Taken as Taken′, Value as Value′, Refused as Refused′}
 use Rattle.sessions.specs.declared.Delivered.{Delivered}
@@ -22,10 +20,10 @@ meant s = Book.session (s .n) (s .number) (s .count)
 abbrev pub resumed : ℕ → ℕ → ℕ → Session
 resumed n own count = record { n = n; number = own; count = count }
 
--- a session as it is started; none is refusal 1
-abbrev pub started : Option Book.Session → Started
-started (some s) = Fresh (resumed (s .n) (s .number) (s .count))
-started none = Unstarted Size
+-- a session as it is started, or a refusal's number
+abbrev pub startedSays : Started → Gives Book.Session
+startedSays (Fresh s) = gives (meant s)
+startedSays (Unstarted x) = denied (numberOf x)
 
 -- an answer carries the count after it
 abbrev pub told : Session → Reply → Delivered

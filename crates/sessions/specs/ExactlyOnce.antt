@@ -3,11 +3,11 @@
 use Prim.Native.Nat.{ℕ}
 use mathlib.Core.List.{List, [], _∷_, _++_}
 use mathlib.Core.Path.{_≡_}
-use Rattle.book.specs.Answers.{Buffers}
+use Rattle.book.specs.Answers.{orDenied, Buffers}
 use Rattle.book.specs.ExactlyOnce.{OneOf, AllOf, seen, Given, Once}
 use Rattle.book.specs.Sessions as Book
 use Rattle.book.specs.declared.Record.{Record}
-use Rattle.sessions.specs.Deliveries.{meant, started, Delivers}
+use Rattle.sessions.specs.Deliveries.{meant, startedSays, Delivers}
 use Rattle.sessions.specs.declared.Delivered.{Delivered}
 use Rattle.sessions.specs.declared.Session.{Session}
 use Rattle.sessions.specs.declared.Started.the-variants.{Fresh}
@@ -22,7 +22,7 @@ pub data Delivering : Session → Buffers → List (List ℕ) → Session → Bu
 abbrev pub ExactlyOnce : Type 0
 ExactlyOnce =
     (n own : ℕ) (b : Buffers) (rs : List Record) → Given n own b rs
-    → (fresh : Session) → Fresh fresh ≡ started (Book.start n own)
+    → (fresh : Session) → startedSays (Fresh fresh) ≡ orDenied 1 (Book.start n own)
     → (ds : List (List ℕ)) → AllOf rs ds → (s : Session) (b₁ : Buffers) → Delivering fresh b ds s b₁
     → (bytes : List ℕ) → OneOf rs bytes → (answer : Delivered) (b₂ : Buffers) → Delivers (Book.deliver (meant s) b₁ bytes) answer b₂
     → Once n b rs (seen (ds ++ (bytes ∷ []))) (answer .count) b₂

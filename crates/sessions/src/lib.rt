@@ -9,11 +9,11 @@ use standing::Standing;
 use standing::stand;
 ghost use mathlib.Core.Path.{_≡_};
 ghost use Prim.Native.Nat.{_<_};
-ghost use Rattle.book.specs.Answers.{replies};
+ghost use Rattle.book.specs.Answers.{replies, orDenied};
 ghost use Rattle.book.specs.Lent.{before, after};
 ghost use Rattle.book.specs.Sessions.{deliver};
 ghost use Rattle.book.specs.Sessions as Book;
-ghost use Rattle.sessions.specs.Deliveries.{meant, started, resumed, told, raised, countedOf, unsized, Delivers};
+ghost use Rattle.sessions.specs.Deliveries.{meant, startedSays, resumed, told, raised, countedOf, unsized, Delivers};
 
 // n qubits, the session's number, and the count of records taken.
 pub struct Session {
@@ -44,7 +44,7 @@ impl Session {
     }
 
     pub fn start(n: u32, number: u32) -> Started
-        ensures { λ r. ⌜ r ≡ started (Book.start n number) ⌝ }
+        ensures { λ r. ⌜ startedSays r ≡ orDenied 1 (Book.start n number) ⌝ }
     {
         if n < 1 {
             return Started::Refused(Refusal::Size);

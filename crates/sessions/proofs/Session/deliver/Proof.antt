@@ -1,11 +1,12 @@
 -- `sessions::Session::deliver` meets its contract: by what was read, and by where the record stands. Assumes nothing.
 use mathlib.Core.Path.{_≡_, refl, sym, ap, _∙_, subst}
 use borrow.Author.Needs.{needs}
-use Rattle.book.specs.Records.{readRecord}
+use Rattle.book.proofs.Gives.{gives-is, denied-is}
+use Rattle.book.specs.Records.{readRecord, readSays}
 use Rattle.book.specs.Sessions as Book
 use Rattle.standing.specs.Stands.{stands}
 use Rattle.sessions.specs.Deliveries.{meant, Delivers}
-use Rattle.sessions.proofs.Steps.{found-is, unread-is, unread, answered, goes, ran}
+use Rattle.sessions.proofs.Steps.{unread, answered, goes, ran}
 use Rattle.sessions.proofs.Session.deliver.Statement.{statement}
 use Rattle.sessions.proofs.Session.deliver.Tie as tie
 
@@ -14,7 +15,7 @@ returns c =
     let told = c .before .before .before in
     let read = told .before .before in
     let a = read .before .before .before .before .args in
-    let none-read = unread-is (readRecord (a .bytes .now)) (sym (read .read-record .ensures) ∙ told .enum-told .given .1) in
+    let none-read = denied-is 8 (readRecord (a .bytes .now)) (sym (ap readSays (told .enum-told .given .1)) ∙ read .read-record .ensures) .0 in
     rw (unread (meant (a .self)) _ (a .bytes .now) none-read) (c .passed .ensures)
 
 counted-requires : tie.Need-counted-requires
@@ -32,7 +33,7 @@ returns-2 c =
     let read = known .before .before in
     let a = read .before .before .before .before .args in
     let it = known .it .given .0 .0 in
-    let found = found-is (readRecord (a .bytes .now)) (sym (read .read-record .ensures) ∙ known .it .given .1) in
+    let found = gives-is 8 (readRecord (a .bytes .now)) (sym (ap readSays (known .it .given .1)) ∙ read .read-record .ensures) in
     let next = sym (ap stands (told .enum-told2 .given .1)) ∙ stood .stand .ensures .0 (meant (a .self)) refl refl in
     rw (goes (meant (a .self)) _ (a .bytes .now) it found next) (ran (a .self) _ (a .bytes .now) it (acted .act .ensures) (c .counted .ensures))
 
@@ -44,7 +45,7 @@ returns-3 c =
     let read = known .before .before in
     let a = read .before .before .before .before .args in
     let it = known .it .given .0 .0 in
-    let found = found-is (readRecord (a .bytes .now)) (sym (read .read-record .ensures) ∙ known .it .given .1) in
+    let found = gives-is 8 (readRecord (a .bytes .now)) (sym (ap readSays (known .it .given .1)) ∙ read .read-record .ensures) in
     let said = sym (ap stands (reply .reply .given .1)) ∙ stood .stand .ensures .0 (meant (a .self)) refl refl in
     rw (answered (meant (a .self)) _ (a .bytes .now) it found _ said) (c .passed2 .ensures)
 
