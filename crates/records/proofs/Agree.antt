@@ -1,7 +1,7 @@
 -- Any two results that the reader's and the writer's contracts allow agree: what an answer says gives the answer back. Assumes nothing.
 use Prim.Native.Nat.{ℕ}
 use mathlib.Core.Path.{_≡_, refl, sym, ap, _∙_}
-use Rattle.book.proofs.Agree.{refusalOf, refusal-back}
+use Rattle.book.proofs.Agree.{agree, refusalOf, refusal-back}
 use Rattle.book.specs.Answers.{Gives, gives, denied}
 use Rattle.book.specs.Records.{readSays, writtenSays}
 use Rattle.book.specs.declared.Read.{Read}
@@ -28,7 +28,7 @@ written-back (Bytes k) = refl
 written-back (Unwritten x) = ap Unwritten (refusal-back x)
 
 pub readers-agree : ReadersAgree
-readers-agree bs a b p q = sym (read-back a) ∙ ap readBy (p ∙ sym q) ∙ read-back b
+readers-agree bs a b = agree readSays readBy read-back
 
 pub writers-agree : WritersAgree
-writers-agree r out a b left other p l q o = (sym (written-back a) ∙ ap writtenBy (p ∙ sym q) ∙ written-back b, l ∙ sym o)
+writers-agree r out a b left other p l q o = (agree writtenSays writtenBy written-back p q, l ∙ sym o)
