@@ -32,7 +32,7 @@ pub enum Ended {
 }
 
 // What was not written comes first: a reader of the output cannot know of it.
-fn ended(written: bool, as_read: Ended) -> Ended {
+fn unless_lost(written: bool, as_read: Ended) -> Ended {
     if written { as_read } else { Ended::Unwritten }
 }
 
@@ -41,7 +41,7 @@ fn bad_header() -> Ended {
     let mut line = [0u8; 128];
     let n = stream::bad_header_line(&mut line);
     let written = io::write_all(libc::STDOUT_FILENO, &line[..n]);
-    ended(written, Ended::BadHeader)
+    unless_lost(written, Ended::BadHeader)
 }
 
 fn behind_frames(cut: bool) -> Ended {
@@ -136,7 +136,7 @@ fn run_session(input: i32, session: Session, reals: &mut [f64], imags: &mut [f64
     let last = end.session;
     let output = end.output;
     let written = print_state(cut, last.count, reals, imags, &mut out, output);
-    ended(written, behind_frames(cut))
+    unless_lost(written, behind_frames(cut))
 }
 
 // From state real 1 at index 0, with the places that a state of n qubits has.

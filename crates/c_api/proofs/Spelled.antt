@@ -10,7 +10,7 @@ use lib.Ieee.{Float}
 use lib.ListN.{length}
 use Rattle.answers.specs.Told.{saidNumber}
 use Rattle.book.proofs.Gives.{gives-is, denied-is}
-use Rattle.book.specs.Answers.{numberOf, taken, refused, says, gives, denied}
+use Rattle.book.specs.Answers.{numberOf, taken, refused, says, Gives, gives, denied}
 use Rattle.book.specs.Records.{readSays, readOf, writeRecord, mostBytes, writtenSays, wroteOf, leftBy}
 use Rattle.book.specs.declared.Answer.{Answer}
 use Rattle.book.specs.declared.Read.{Read}
@@ -45,8 +45,8 @@ module _ (o : Option Record) (out : List ℕ) {code : ℕ} where
   pub writes-none : {x : Refusal} {read : Read} → readSays read ≡ readOf o → read ≡ Unread x → code ≡ numberOf x → Writes o out code out
   writes-none s e a = let n = denied-is 8 o (sym (ap readSays e) ∙ s) in rw (n .0) (record { answers = a ∙ n .1; leaves = refl })
 
-  pub writes : {it : Record} {read : Read} → readSays read ≡ readOf o → read ≡ Found it → {out′ : List ℕ} {written : Written}
-      → writtenSays written ≡ wroteOf it out → out′ ≡ leftBy it out → code ≡ writtenNumber (writtenSays written) → Writes o out code out′
+  pub writes : {it : Record} {read : Read} → readSays read ≡ readOf o → read ≡ Found it → {out′ : List ℕ} {said : Gives ℕ}
+      → said ≡ wroteOf it out → out′ ≡ leftBy it out → code ≡ writtenNumber said → Writes o out code out′
   writes s e w l a = rw (gives-is 8 o (sym (ap readSays e) ∙ s)) (record { answers = a ∙ ap writtenNumber w; leaves = l })
 
 -- what is written fits a number of 32 bits
