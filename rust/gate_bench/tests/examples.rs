@@ -256,4 +256,16 @@ fn one_nan() {
     for x in [other, -1.0, -infinite, -f64::from_bits(1)] {
         assert_eq!(root(x).to_bits(), NAN, "root({x})");
     }
+    // P, RZ and U leave what F gives.
+    let (k, g) = (Angle { cosine: 0.0, sine: 1.0 }, Angles { ct: 0.0, st: 1.0, cl: 0.0, sl: 1.0, cpl: 0.0, spl: 1.0, cp: 0.0, sp: 1.0 });
+    for x in [other, infinite, -infinite] {
+        let left = |gate: &dyn Fn(&mut [f64], &mut [f64]) -> Answer| {
+            let (mut reals, mut imags) = ([x; 2], [x; 2]);
+            assert_eq!(gate(&mut reals, &mut imags), Answer::Taken);
+            bits(&[reals, imags].concat())
+        };
+        assert_eq!(left(&|re, im| p_apply(re, im, 1, 0, 0, k))[1], NAN);
+        assert_eq!(left(&|re, im| rz_apply(re, im, 1, 0, 0, k)), [NAN; 4]);
+        assert_eq!(left(&|re, im| u_apply(re, im, 1, 0, 0, g)), [NAN; 4]);
+    }
 }
