@@ -7,7 +7,7 @@ use mathlib.Core.Option.{Option, some, none}
 use lib.Dec.{leb, ltb, eqb}
 use lib.Ieee.{Float, binary64, ofBits, toBits}
 use lib.ListN.{length, take, drop, getD}
-use Rattle.book.specs.Answers.{numberOf, Gives, gives, denied, orDenied}
+use Rattle.book.specs.Answers.{numberOf, Gives, gives, denied}
 use Rattle.book.specs.Gates.{angleOf, anglesOf, noiseOf}
 use Rattle.book.specs.State.{controlled}
 use Rattle.book.specs.declared.Angle.{Angle}
@@ -187,6 +187,3 @@ readRecord bs =
 abbrev pub readSays : Read → Gives Record
 readSays (Found r) = gives r
 readSays (Unread x) = denied (numberOf x)
-
-abbrev pub readOf : Option Record → Gives Record
-readOf = orDenied 8

@@ -10,8 +10,8 @@ use lib.Ieee.{Float}
 use lib.ListN.{length}
 use Rattle.answers.specs.Told.{saidNumber}
 use Rattle.book.proofs.Gives.{gives-is, denied-is}
-use Rattle.book.specs.Answers.{numberOf, taken, refused, says, Gives, gives, denied}
-use Rattle.book.specs.Records.{readSays, readOf, writeRecord, mostBytes, writtenSays, wroteOf, leftBy}
+use Rattle.book.specs.Answers.{numberOf, taken, refused, says, Gives, gives, denied, orDenied}
+use Rattle.book.specs.Records.{readSays, writeRecord, mostBytes, writtenSays, wroteOf, leftBy}
 use Rattle.book.specs.declared.Answer.{Answer}
 use Rattle.book.specs.declared.Read.{Read}
 use Rattle.book.specs.declared.Read.the-variants.{Record as Found, Refused as Unread}
@@ -26,11 +26,11 @@ use Rattle.c_api.specs.Spelling.{Reads, writtenNumber, Writes}
 -- ---- reading
 
 module _ (o : Option Record) (fs : List ℕ) (xs : List Float) {code : ℕ} where
-  pub reads-none : {x : Refusal} {read : Read} → readSays read ≡ readOf o → read ≡ Unread x → code ≡ numberOf x → Reads o fs xs code fs xs
+  pub reads-none : {x : Refusal} {read : Read} → readSays read ≡ orDenied 8 o → read ≡ Unread x → code ≡ numberOf x → Reads o fs xs code fs xs
   reads-none s e a = let n = denied-is 8 o (sym (ap readSays e) ∙ s) in rw (n .0) (record { answers = a ∙ n .1; fields = refl; numbers = refl })
 
   pub reads : {it : Record} {read : Read} {answer : Answer} {fs′ : List ℕ} {xs′ : List Float}
-      → readSays read ≡ readOf o → read ≡ Found it → Puts it fs xs answer fs′ xs′ → code ≡ saidNumber (says answer) → Reads o fs xs code fs′ xs′
+      → readSays read ≡ orDenied 8 o → read ≡ Found it → Puts it fs xs answer fs′ xs′ → code ≡ saidNumber (says answer) → Reads o fs xs code fs′ xs′
   reads s e p a =
       rw (gives-is 8 o (sym (ap readSays e) ∙ s))
       (record { answers = a ∙ ap saidNumber (p .answers) ∙ by (tooFew fs xs); fields = p .fields; numbers = p .numbers })
@@ -42,10 +42,10 @@ module _ (o : Option Record) (fs : List ℕ) (xs : List Float) {code : ℕ} wher
 -- ---- writing
 
 module _ (o : Option Record) (out : List ℕ) {code : ℕ} where
-  pub writes-none : {x : Refusal} {read : Read} → readSays read ≡ readOf o → read ≡ Unread x → code ≡ numberOf x → Writes o out code out
+  pub writes-none : {x : Refusal} {read : Read} → readSays read ≡ orDenied 8 o → read ≡ Unread x → code ≡ numberOf x → Writes o out code out
   writes-none s e a = let n = denied-is 8 o (sym (ap readSays e) ∙ s) in rw (n .0) (record { answers = a ∙ n .1; leaves = refl })
 
-  pub writes : {it : Record} {read : Read} → readSays read ≡ readOf o → read ≡ Found it → {out′ : List ℕ} {said : Gives ℕ}
+  pub writes : {it : Record} {read : Read} → readSays read ≡ orDenied 8 o → read ≡ Found it → {out′ : List ℕ} {said : Gives ℕ}
       → said ≡ wroteOf it out → out′ ≡ leftBy it out → code ≡ writtenNumber said → Writes o out code out′
   writes s e w l a = rw (gives-is 8 o (sym (ap readSays e) ∙ s)) (record { answers = a ∙ ap writtenNumber w; leaves = l })
 

@@ -18,6 +18,6 @@ pub data Calling (n own : ℕ) : ℕ → Buffers → List (List ℕ) → ℕ →
 abbrev pub ExactlyOnce : Type 0
 ExactlyOnce =
     (n own : ℕ) (b : Buffers) (rs : List Record) → Given n own b rs
-    → (ds : List (List ℕ)) → AllOf rs ds → (k : ℕ) (b₁ : Buffers) → Calling n own 0 b ds k b₁
-    → (bytes : List ℕ) → OneOf rs bytes → (code k₂ : ℕ) (b₂ : Buffers) → TellsDelivery (Book.deliver (Book.session n own k) b₁ bytes) code k₂ b₂
+    → (ds : List (List ℕ)) → AllOf own rs ds → (k : ℕ) (b₁ : Buffers) → Calling n own 0 b ds k b₁
+    → (bytes : List ℕ) → OneOf own rs bytes → (code k₂ : ℕ) (b₂ : Buffers) → TellsDelivery (Book.deliver (Book.session n own k) b₁ bytes) code k₂ b₂
     → Once n b rs (seen (ds ++ (bytes ∷ []))) k₂ b₂

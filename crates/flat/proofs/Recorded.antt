@@ -9,8 +9,8 @@ use lib.Dec.{ltb}
 use lib.Ieee.{Float}
 use lib.ListN.{length, getD}
 use borrow.Author.Tests.{ltb-false, lt-ltb, le-ltb}
-use Rattle.book.specs.Answers.{gives, denied}
-use Rattle.book.specs.Records.{rowOf, recordWith, readOf}
+use Rattle.book.specs.Answers.{gives, denied, orDenied}
+use Rattle.book.specs.Records.{rowOf, recordWith}
 use Rattle.book.specs.declared.Angles.{Angles}
 use Rattle.book.specs.declared.Gate.{Gate}
 use Rattle.flat.specs.Numbers.{tooFew, gateOf, numbersAt, recordOf}
@@ -27,17 +27,17 @@ module _ (fs : List ℕ) (xs : List Float) where
       by true e f = let z : _≡_ {A = ℕ} 0 1 = cc in absurd (omega arith)
       by false e f = (ltb-false _ _ e, ltb-false _ _ f)
 
-  pub few : tooFew fs xs ≡ true → denied 8 ≡ readOf (recordOf fs xs)
+  pub few : tooFew fs xs ≡ true → denied 8 ≡ orDenied 8 (recordOf fs xs)
   unfolding recordOf
   few e = rw e
 
   module _ (e : tooFew fs xs ≡ false) where
-    pub no-number : 65535 < getD fs 1 0 → denied 8 ≡ readOf (recordOf fs xs)
+    pub no-number : 65535 < getD fs 1 0 → denied 8 ≡ orDenied 8 (recordOf fs xs)
     unfolding recordOf
     no-number h = rw (e, lt-ltb 65535 (getD fs 1 0) h)
 
     module _ (fits : getD fs 1 0 ≤ 65535) where
-      pub no-target : 255 < getD fs 3 0 → denied 8 ≡ readOf (recordOf fs xs)
+      pub no-target : 255 < getD fs 3 0 → denied 8 ≡ orDenied 8 (recordOf fs xs)
       unfolding recordOf
       no-target h = rw (e, le-ltb 65535 (getD fs 1 0) fits, lt-ltb 255 (getD fs 3 0) h)
 
@@ -49,12 +49,12 @@ module _ (fs : List ℕ) (xs : List Float) where
         unfolding recordOf
         judged = rw (e, le-ltb 65535 (getD fs 1 0) fits, le-ltb 255 (getD fs 3 0) byte)
 
-        no-made : (o : Option Gate) → madeOf o ≡ Missing → denied 8 ≡ readOf (recordWith (getD fs 0 0) (getD fs 1 0) o)
+        no-made : (o : Option Gate) → madeOf o ≡ Missing → denied 8 ≡ orDenied 8 (recordWith (getD fs 0 0) (getD fs 1 0) o)
         no-made (some g) q = let z : _≡_ {A = ℕ} 0 1 = cc in absurd (omega arith)
         no-made none q = refl
 
         a-made : (g : Gate) (o : Option Gate) → madeOf o ≡ Whole g
-            → gives (record { session = getD fs 0 0; number = getD fs 1 0; gate = g }) ≡ readOf (recordWith (getD fs 0 0) (getD fs 1 0) o)
+            → gives (record { session = getD fs 0 0; number = getD fs 1 0; gate = g }) ≡ orDenied 8 (recordWith (getD fs 0 0) (getD fs 1 0) o)
         a-made g (some h) q = cc
         a-made g none q = let z : _≡_ {A = ℕ} 0 1 = cc in absurd (omega arith)
 
@@ -62,9 +62,9 @@ module _ (fs : List ℕ) (xs : List Float) where
           read : {made : Made} → madeOf (gate eight) ≡ made → madeOf (gate (numbersAt xs)) ≡ made
           read q = ap (λ (g : Angles). madeOf (gate g)) (sym is) ∙ q
 
-          pub no-gate : madeOf (gate eight) ≡ Missing → denied 8 ≡ readOf (recordOf fs xs)
+          pub no-gate : madeOf (gate eight) ≡ Missing → denied 8 ≡ orDenied 8 (recordOf fs xs)
           no-gate q = rw judged (no-made (gate (numbersAt xs)) (read q))
 
           pub a-gate : (g : Gate) → madeOf (gate eight) ≡ Whole g
-              → gives (record { session = getD fs 0 0; number = getD fs 1 0; gate = g }) ≡ readOf (recordOf fs xs)
+              → gives (record { session = getD fs 0 0; number = getD fs 1 0; gate = g }) ≡ orDenied 8 (recordOf fs xs)
           a-gate g q = rw judged (a-made g (gate (numbersAt xs)) (read q))

@@ -17,7 +17,8 @@ use shapes::plain_gate;
 ghost use mathlib.Core.Path.{_≡_};
 ghost use Prim.Native.Nat.{_≤_};
 ghost use lib.ListN.{length};
-ghost use Rattle.book.specs.Records.{rowOf, readSays, readOf};
+ghost use Rattle.book.specs.Answers.{orDenied};
+ghost use Rattle.book.specs.Records.{rowOf, readSays};
 ghost use Rattle.flat.specs.Numbers.{two, laid, flatOf, over, flatFields, flatNumbers, tooFew, Puts};
 ghost use Rattle.flat.specs.Numbers.{numbersAt, swapOf, measureOf, gateOf, recordOf};
 ghost use Rattle.shapes.specs.Gates.{madeOf};
@@ -201,7 +202,7 @@ fn gate_of(code: u32, target: u8, second: u32, reset: u32, g: Angles) -> Made
 
 // The record that the first places are, or refusal 8.
 pub fn record_of(fields: &[u32], numbers: &[f64]) -> Read
-    ensures { λ r. ⌜ readSays r ≡ readOf (recordOf (now (fields .entry)) (now (numbers .entry))) ⌝ }
+    ensures { λ r. ⌜ readSays r ≡ orDenied 8 (recordOf (now (fields .entry)) (now (numbers .entry))) ⌝ }
 {
     if too_few(fields, numbers) {
         return Read::Refused(Refusal::Record);

@@ -23,6 +23,6 @@ abbrev pub ExactlyOnce : Type 0
 ExactlyOnce =
     (n own : ℕ) (b : Buffers) (rs : List Record) → Given n own b rs
     → (fresh : Session) → startedSays (Fresh fresh) ≡ orDenied 1 (Book.start n own)
-    → (ds : List (List ℕ)) → AllOf rs ds → (s : Session) (b₁ : Buffers) → Delivering fresh b ds s b₁
-    → (bytes : List ℕ) → OneOf rs bytes → (answer : Delivered) (b₂ : Buffers) → Delivers (Book.deliver (meant s) b₁ bytes) answer b₂
+    → (ds : List (List ℕ)) → AllOf own rs ds → (s : Session) (b₁ : Buffers) → Delivering fresh b ds s b₁
+    → (bytes : List ℕ) → OneOf own rs bytes → (answer : Delivered) (b₂ : Buffers) → Delivers (Book.deliver (meant s) b₁ bytes) answer b₂
     → Once n b rs (seen (ds ++ (bytes ∷ []))) (answer .count) b₂
