@@ -8,8 +8,9 @@ use Rattle.book.specs.Records.{partsOf}
 use Rattle.book.specs.declared.Gate.{Gate}
 use Rattle.book.specs.declared.Gate.the-variants.{H, X, Y, Z, P, Rx, Ry, Rz, U, Swap, Measure, BitFlip}
 use Rattle.book.specs.declared.Record.{Record}
+use Rattle.flat.specs.Numbers.{flatFields, flatNumbers, tooFew}
 use Rattle.records.specs.RoundTrips.{OwnFits}
-use Rattle.flat.specs.Numbers.{flatFields, flatNumbers, tooFew, recordOf, FlatBack}
+use Rattle.from_flat.specs.Records.{recordOf, FlatBack}
 
 by-gate : (s k : ℕ) (g : Gate) → k < 2 ^ 16 → partsOf g .target < 256 → OwnFits (partsOf g .shape)
     → (let r : Record = record { session = s; number = k; gate = g } in recordOf (flatFields r) (flatNumbers r) ≡ some r)

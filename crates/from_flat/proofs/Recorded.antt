@@ -1,32 +1,24 @@
 -- The record that flat numbers are, test by test, as the code takes them. Assumes nothing.
 use Prim.Native.Nat.{ℕ, _≤_, _<_}
 use native.Mathlib.Omega.{arith}
-use mathlib.Core.Bool.{Bool, true, false, _||_}
+use mathlib.Core.Bool.{true, false}
 use mathlib.Core.List.{List}
 use mathlib.Core.Option.{Option, some, none}
 use mathlib.Core.Path.{_≡_, refl, sym, ap, _∙_}
-use lib.Dec.{ltb}
 use lib.Ieee.{Float}
-use lib.ListN.{length, getD}
-use borrow.Author.Tests.{ltb-false, lt-ltb, le-ltb}
+use lib.ListN.{getD}
+use borrow.Author.Tests.{lt-ltb, le-ltb}
 use Rattle.book.specs.Answers.{gives, denied, orDenied}
 use Rattle.book.specs.Records.{rowOf, recordWith}
 use Rattle.book.specs.declared.Angles.{Angles}
 use Rattle.book.specs.declared.Gate.{Gate}
-use Rattle.flat.specs.Numbers.{tooFew, gateOf, numbersAt, recordOf}
+use Rattle.flat.specs.Numbers.{tooFew}
 use Rattle.shapes.specs.Gates.{madeOf}
 use Rattle.shapes.specs.declared.Made.{Made}
 use Rattle.shapes.specs.declared.Made.the-variants.{Gate as Whole, Missing}
+use Rattle.from_flat.specs.Records.{gateOf, numbersAt, recordOf}
 
 module _ (fs : List ℕ) (xs : List Float) where
-  pub enough : tooFew fs xs ≡ false → (6 ≤ length fs) × (8 ≤ length xs)
-  unfolding tooFew
-  enough = by (ltb (length fs) 6) refl
-    where
-      by : (t : Bool) → ltb (length fs) 6 ≡ t → (t || ltb (length xs) 8) ≡ false → (6 ≤ length fs) × (8 ≤ length xs)
-      by true e f = let z : _≡_ {A = ℕ} 0 1 = cc in absurd (omega arith)
-      by false e f = (ltb-false _ _ e, ltb-false _ _ f)
-
   pub few : tooFew fs xs ≡ true → denied 8 ≡ orDenied 8 (recordOf fs xs)
   unfolding recordOf
   few e = rw e

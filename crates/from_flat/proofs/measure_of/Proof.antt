@@ -1,8 +1,8 @@
--- `flat::measure_of` takes an outcome and a reset that are bytes. Assumes nothing.
+-- `from_flat::measure_of` takes an outcome and a reset that are bytes. Assumes nothing.
 use borrow.Author.Needs.{needs}
 use borrow.Author.Tests.{lt-ltb, le-ltb}
-use Rattle.flat.proofs.measure_of.Statement.{statement}
-use Rattle.flat.proofs.measure_of.Tie as tie
+use Rattle.from_flat.proofs.measure_of.Statement.{statement}
+use Rattle.from_flat.proofs.measure_of.Tie as tie
 
 returns : tie.Need-returns
 returns c = rw (lt-ltb _ _ (c .if1 .taken))

@@ -1,8 +1,8 @@
--- `flat::swap_of` takes a second qubit that is a byte. Assumes nothing.
+-- `from_flat::swap_of` takes a second qubit that is a byte. Assumes nothing.
 use borrow.Author.Needs.{needs}
 use borrow.Author.Tests.{lt-ltb, le-ltb}
-use Rattle.flat.proofs.swap_of.Statement.{statement}
-use Rattle.flat.proofs.swap_of.Tie as tie
+use Rattle.from_flat.proofs.swap_of.Statement.{statement}
+use Rattle.from_flat.proofs.swap_of.Tie as tie
 
 returns : tie.Need-returns
 returns c = rw (lt-ltb _ _ (c .if1 .taken))

@@ -1,14 +1,15 @@
--- `flat::record_of` makes the tests of `recordOf` in its order. Assumes nothing.
+-- `from_flat::record_of` makes the tests of `recordOf` in its order. Assumes nothing.
 use Prim.Native.Nat.{_≤_}
 use native.Mathlib.Omega.{arith}
 use mathlib.Core.Bool.{false}
 use mathlib.Core.Path.{_≡_, sym, _∙_}
 use lib.ListN.{length}
 use borrow.Author.Needs.{needs}
+use Rattle.flat.proofs.Enough.{enough}
 use Rattle.flat.specs.Numbers.{tooFew}
-use Rattle.flat.proofs.Recorded.{enough, few, no-number, no-target, no-gate, a-gate}
-use Rattle.flat.proofs.record_of.Statement.{statement}
-use Rattle.flat.proofs.record_of.Tie as tie
+use Rattle.from_flat.proofs.Recorded.{few, no-number, no-target, no-gate, a-gate}
+use Rattle.from_flat.proofs.record_of.Statement.{statement}
+use Rattle.from_flat.proofs.record_of.Tie as tie
 
 -- `tested` is the place behind the first test, `at-3` the one behind the third, `made` where the gate is made
 

@@ -1,4 +1,4 @@
--- `flat::gate_of` makes the gate of the row that its code has in the book's table. Assumes nothing.
+-- `from_flat::gate_of` makes the gate of the row that its code has in the book's table. Assumes nothing.
 use native.Mathlib.Omega.{arith}
 use mathlib.Core.Path.{ap, _∙_}
 use borrow.Author.Needs.{needs}
@@ -8,9 +8,9 @@ use Rattle.book.specs.declared.Controls.{Controls}
 use Rattle.shapes.proofs.Rows.{plain-rows, angled-rows, low-row, high-row}
 use Rattle.shapes.specs.Gates.{madeOf, plainGate, angledGate}
 use Rattle.shapes.specs.declared.Made.the-variants.{Gate as Made}
-use Rattle.flat.specs.Numbers.{angle, gateOf}
-use Rattle.flat.proofs.gate_of.Statement.{statement}
-use Rattle.flat.proofs.gate_of.Tie as tie
+use Rattle.from_flat.specs.Records.{angle, gateOf}
+use Rattle.from_flat.proofs.gate_of.Statement.{statement}
+use Rattle.from_flat.proofs.gate_of.Tie as tie
 
 returns-5 : tie.Need-returns-5
 returns-5 c =
