@@ -56,10 +56,10 @@ turn {bytes} {lengths} {start} {at} {i} {size} {s} {s′} {b} {b′} h room is n
       within = omega (arith, h .within, is);
       same = record { reals = keeps .reals ∙ h .same .reals; imags = keeps .imags ∙ h .same .imags };
       run =
-      ap₂ (λ (s : Session) (b : Buffers). deliverAll (bench s b) (cut (drop (at + size) bytes) (drop (i + 1) lengths))) next left
-      ∙ rw (lent bytes at (getD lengths i 0) size is, behind bytes at (getD lengths i 0) size is, add-one) 
-      (ap (λ (ls : List ℕ). deliverAll (bench s b) (cut (drop at bytes) ls)) (sym (drop-cons lengths i 0 room)))
-      ∙ h .run;
+          ap₂ (λ (s : Session) (b : Buffers). deliverAll (bench s b) (cut (drop (at + size) bytes) (drop (i + 1) lengths))) next left
+          ∙ rw (lent bytes at (getD lengths i 0) size is, behind bytes at (getD lengths i 0) size is, add-one)
+          (ap (λ (ls : List ℕ). deliverAll (bench s b) (cut (drop at bytes) ls)) (sym (drop-cons lengths i 0 room)))
+          ∙ h .run;
     }
 
 pub ends : {bytes lengths : List ℕ} {at i : ℕ} {s s′ : Session} {b b′ : Buffers}

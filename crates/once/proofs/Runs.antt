@@ -60,10 +60,10 @@ all-once s b ds s′ b′ run =
     record {
       run = run;
       once = λ rs g zero all.
-      let fresh : session (s .n) (s .number) 0 ≡ s = λ i. session (s .n) (s .number) (sym zero i) in
-      subst (λ (x : Bench). Once (s .n) b rs (seen ds) (x .session .count) (x .state))
-      (ap (λ (t : Session). deliverAll (bench t b) ds) fresh ∙ sym run)
-      (after-all g ds all);
+          let fresh : session (s .n) (s .number) 0 ≡ s = λ i. session (s .n) (s .number) (sym zero i) in
+          subst (λ (x : Bench). Once (s .n) b rs (seen ds) (x .session .count) (x .state))
+          (ap (λ (t : Session). deliverAll (bench t b) ds) fresh ∙ sym run)
+          (after-all g ds all);
     }
 
 pub all-once-agree : {s s₁ s₂ : Session} {b b₁ b₂ : Buffers} {ds : List (List ℕ)} → AllOnce s b ds s₁ b₁ → AllOnce s b ds s₂ b₂ → (s₁ ≡ s₂) × (b₁ ≡ b₂)
