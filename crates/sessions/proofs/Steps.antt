@@ -67,6 +67,7 @@ module _ (s : Book.Session) (b : Buffers) (bytes : List ℕ) where
         by (suc k) z = sym (ap (counted s b bytes) (sized-wrong b (callOf (s .n) (r .gate) b) (sizeTests (s .n) b) z))
 
 -- ---- the code's answers
+-- Each part of a contract is found by `search`, here and for `deliver`: a part that asks less is proved too, and is missed by who goes by it.
 
 pub by-is : {d d′ : Book.Delivery} {a : Delivered} {b : Buffers} → d′ ≡ d → Delivers d a b → Delivers d′ a b
 by-is e h = rw e h
@@ -79,7 +80,7 @@ module _ (s : Session) (b : Buffers) {a : Delivered} {k : Counted} (e : a ≡ to
   pub passes : {x : Reply} {size : Answer} → Judges (sizeTests (s .n) b) size → Passes (s .count) size x k → Delivers (unsized (meant s) b (replies x)) a b
   passes {x} j p =
       let reply = p .reply ∙ ap (λ (y : Said). behind y (replies x)) (j .is) in
-      rw e (record { next = counts-are (p .counts); reply = reply; count = p .counts; leaves = refl })
+      rw e (record { next = search (counts-are (p .counts)); reply = search reply; count = search (p .counts); leaves = refl })
 
   -- its gate was run
   pub ran : (bytes : List ℕ) (r : Record) {b′ : Buffers} {answer : Answer} {next : ℕ} → Does (act (s .n) (r .gate) b) answer b′ → next ≡ s .count + 1
@@ -92,5 +93,5 @@ module _ (s : Session) (b : Buffers) {a : Delivered} {k : Counted} (e : a ≡ to
     where
       by : (t : Bool) (o : Outcome) → (t ≡ false → o .left ≡ b) → k .count ≡ cond t (s .count + 1) (s .count) → replies (k .reply) ≡ said (o .says) → b′ ≡ o .left
           → Delivers (cond t (record { next = raised (meant s) bytes; says = said (o .says); left = o .left }) (kept (meant s) b (said (o .says)))) (told s k) b′
-      by true o keeps c x l = record { next = counts-are c; reply = x; count = c; leaves = l }
-      by false o keeps c x l = record { next = counts-are c; reply = x; count = c; leaves = l ∙ keeps refl }
+      by true o keeps c x l = record { next = search (counts-are c); reply = search; count = search; leaves = search }
+      by false o keeps c x l = record { next = search (counts-are c); reply = search; count = search; leaves = search (l ∙ keeps refl) }
