@@ -1,7 +1,7 @@
--- `matrices::bad_length` meets its contract, test by test. Assumes nothing.
+-- `sizes::bad_length` meets its contract, test by test. Assumes nothing.
 use borrow.Author.Tests.{eq-eqb, ne-eqb}
-use Rattle.matrices.proofs.bad_length.Statement.{statement}
-use Rattle.matrices.proofs.bad_length.Tie as tie
+use Rattle.sizes.proofs.bad_length.Statement.{statement}
+use Rattle.sizes.proofs.bad_length.Tie as tie
 
 returns : tie.Need-returns
 returns c = rw (ne-eqb _ _ (c .if1 .taken))
