@@ -1,105 +1,102 @@
--- The tests of a size and of a seat, in their order, from their numbers. Assumes nothing.
-use Prim.Native.Nat.{ℕ, _^_, _≤_, _<_}
-use mathlib.Core.Bool.{Bool, true, false, not, _||_}
-use mathlib.Core.Path.{_≡_, refl}
-use borrow.Author.Tests.{lt-ltb, le-ltb, le-leb, lt-leb, eq-eqb, ne-eqb}
-use lib.Dec.{eqb, leb, ltb}
-use lib.ListN.{length}
-use Rattle.book.specs.Answers.{Said, refused, taken, first, Buffers}
+-- What each return of `seat` and `size` answers: its test applies, and those before it are passed. A test is read off the code as a flag `x` with `x ≡ test`
+-- and its outcome, so that a return cites nothing but what holds there. Assumes nothing.
+use Prim.Native.Nat.{ℕ, _%_, _^_, _≤_, _<_}
+use mathlib.Core.Bool.{Bool, true, false, _||_}
+use mathlib.Core.List.{[], _++_}
+use mathlib.Core.Path.{_≡_, sym, ap, _∙_}
+use native.Mathlib.Nat.{mod-eq-of-lt}
+use native.Mathlib.Omega.{arith}
+use borrow.Author.Tests.{lt-ltb, le-ltb, eq-eqb, ne-eqb, ltb-false, leb-false}
+use lib.Dec.{leb, ltb}
+use Rattle.book.proofs.Refusals.{neither}
+use Rattle.book.specs.Answers.{first, Buffers}
 use Rattle.book.specs.Kernels.{badSize, mostQubits, badLength, sizeTests, outside, clash, count, seatTests}
+use Rattle.book.specs.State.{bit}
+use Rattle.book.specs.declared.Answer.{Answer}
+use Rattle.book.specs.declared.Answer.the-variants.{Taken, Refused}
 use Rattle.book.specs.declared.Controls.{Controls}
-use Rattle.judging.specs.Judging.{verdict}
+use Rattle.book.specs.declared.Refusal.the-variants.{Size, Length, Qubit, Same, Form}
+use Rattle.judging.proofs.Shifts.{shl, shl-is}
+use Rattle.judging.specs.Judging.{Judges}
 
--- ---- 1 and 2
-module _ (n : ℕ) (b : Buffers) where
-  abbrev sized : Said
-  sized = verdict (first (sizeTests n b))
+-- test 1 passed: n is at most 24
+small : (n : ℕ) {out : Bool} → out ≡ badSize mostQubits n → out ≡ false → n ≤ 24
+small n e h = ltb-false 24 n (neither (ltb n 1) (ltb 24 n) (sym e ∙ h) .1)
 
-  pub is-size : badSize mostQubits n ≡ true → refused 1 ≡ sized
+pub shift-fits : (n : ℕ) {out : Bool} → out ≡ badSize mostQubits n → out ≡ false → n < 64
+shift-fits n e h = omega (arith, small n e h)
+
+-- n as the code's shifts take it
+below : (n k : ℕ) → n ≤ 24 → 24 < k → n % k ≡ n
+below n k h l = mod-eq-of-lt (let m : n < k = omega arith in m)
+
+-- ---- 1 and 2 alone
+module _ (n : ℕ) (b : Buffers) {out : Bool} (e1 : out ≡ badSize mostQubits n) where
+  pub size-out : out ≡ true → Judges (sizeTests n b) (Refused Size)
   unfolding first sizeTests
-  is-size h = rw h
+  size-out h = record { is = rw (sym e1 ∙ h) }
 
-  module _ (t1 : badSize mostQubits n ≡ false) where
-    pub is-length : badLength (2 ^ n) b ≡ true → refused 2 ≡ sized
+  module _ (p1 : out ≡ false) {long : Bool} (e2 : long ≡ badLength (shl n) b) where
+    lengths : long ≡ badLength (2 ^ n) b
+    lengths = rw (shl-is n (small n e1 p1)) at e2
+
+    pub size-long : long ≡ true → Judges (sizeTests n b) (Refused Length)
     unfolding first sizeTests
-    is-length h = rw (t1, h)
+    size-long h = record { is = rw (sym e1 ∙ p1, sym lengths ∙ h) }
 
-    pub is-sized : badLength (2 ^ n) b ≡ false → taken ≡ sized
+    pub size-passed : long ≡ false → Judges (sizeTests n b) Taken
     unfolding first sizeTests
-    is-sized h = rw (t1, h)
+    size-passed h = record { is = rw (sym e1 ∙ p1, sym lengths ∙ h) }
 
--- ---- 3 to 5
-module _ (most n t : ℕ) (c : Controls) where
-  abbrev seated : Said
-  seated = verdict (first (seatTests most n t c))
+-- ---- 1 to 5
+module _ (most n t : ℕ) (c : Controls) (b : Buffers) where
+  abbrev Seat : Answer → Type 0
+  Seat r = Judges (sizeTests n b ++ seatTests most n t c) r
 
-  pub is-qubit : (leb n t || outside n c) ≡ true → refused 3 ≡ seated
-  unfolding first seatTests
-  is-qubit h = rw h
+  module _ {out : Bool} (e1 : out ≡ badSize mostQubits n) where
+    pub seat-out : out ≡ true → Seat (Refused Size)
+    unfolding first sizeTests
+    seat-out h = record { is = rw (sym e1 ∙ h) }
 
-  module _ (t3 : (leb n t || outside n c) ≡ false) where
-    pub is-same : clash t c ≡ true → refused 4 ≡ seated
-    unfolding first seatTests
-    is-same h = rw (t3, h)
+    module _ (p1 : out ≡ false) {long : Bool} (e2 : long ≡ badLength (shl (n % 64)) b) where
+      t2 : long ≡ badLength (2 ^ n) b
+      t2 = rw (below n 64 (small n e1 p1) (let m : 24 < 64 = omega arith in m), shl-is n (small n e1 p1)) at e2
 
-    module _ (t4 : clash t c ≡ false) where
-      pub is-form : ltb most (count c) ≡ true → refused 5 ≡ seated
-      unfolding first seatTests
-      is-form h = rw (t3, t4, h)
+      pub seat-long : long ≡ true → Seat (Refused Length)
+      unfolding first sizeTests
+      seat-long h = record { is = rw (sym e1 ∙ p1, sym t2 ∙ h) }
 
-      pub is-seated : ltb most (count c) ≡ false → taken ≡ seated
-      unfolding first seatTests
-      is-seated h = rw (t3, t4, h)
+      module _ (p2 : long ≡ false) {far : Bool} (e3 : far ≡ (leb n t || leb (2 ^ (n % 32)) (c .ones))) where
+        t3 : far ≡ (leb n t || outside n c)
+        t3 = rw (below n 32 (small n e1 p1) (let m : 24 < 32 = omega arith in m)) at e3
 
--- ---- each test from its numbers
-or-first : (a b : Bool) → a ≡ true → (a || b) ≡ true
-or-first a b h = rw h
+        pub seat-far : far ≡ true → Seat (Refused Qubit)
+        unfolding first sizeTests seatTests
+        seat-far h = record { is = rw (sym e1 ∙ p1, sym t2 ∙ p2, sym t3 ∙ h) }
 
-or-second : (a b : Bool) → b ≡ true → (a || b) ≡ true
-or-second true b h = refl
-or-second false b h = h
+        module _ (p3 : far ≡ false) where
+          target-is : t % 32 ≡ t
+          target-is = mod-eq-of-lt (let m : t < 32 = omega (arith, small n e1 p1, leb-false n t (neither (leb n t) (outside n c) (sym t3 ∙ p3) .0)) in m)
 
-or-neither : (a b : Bool) → a ≡ false → b ≡ false → (a || b) ≡ false
-or-neither a b p q = rw (p, q)
+          pub seat-same : bit (t % 32) (c .ones) ≡ 1 → Seat (Refused Same)
+          unfolding first sizeTests seatTests
+          seat-same h =
+              let clashes : clash t c ≡ true = eq-eqb _ 1 (rw target-is at h) in
+              record { is = rw (sym e1 ∙ p1, sym t2 ∙ p2, sym t3 ∙ p3, clashes) }
 
-differs : (k m : ℕ) → (k ≡ m → ⊥) → not (eqb k m) ≡ true
-differs k m h = rw (ne-eqb k m h)
+          module _ (other : bit (t % 32) (c .ones) ≡ 1 → ⊥) where
+            t4 : clash t c ≡ false
+            t4 = ne-eqb _ 1 (rw target-is at other)
 
-agrees : (k m : ℕ) → k ≡ m → not (eqb k m) ≡ false
-agrees k m h = rw (eq-eqb k m h)
+            pub seat-form : most < count c → Seat (Refused Form)
+            unfolding first sizeTests seatTests
+            seat-form h = record { is = rw (sym e1 ∙ p1, sym t2 ∙ p2, sym t3 ∙ p3, t4, lt-ltb most (count c) h) }
 
-module _ (n : ℕ) where
-  pub size-low : n < 1 → badSize mostQubits n ≡ true
-  size-low h = or-first (ltb n 1) (ltb 24 n) (lt-ltb n 1 h)
+            pub seat-passed : count c ≤ most → Seat Taken
+            unfolding first sizeTests seatTests
+            seat-passed h = record { is = rw (sym e1 ∙ p1, sym t2 ∙ p2, sym t3 ∙ p3, t4, le-ltb most (count c) h) }
 
-  pub size-high : 24 < n → badSize mostQubits n ≡ true
-  size-high h = or-second (ltb n 1) (ltb 24 n) (lt-ltb 24 n h)
+-- whichever return it is
+pub ruleset sizes = (size-out, size-long, size-passed)
 
-  pub size-good : 1 ≤ n → n ≤ 24 → badSize mostQubits n ≡ false
-  size-good p q = or-neither (ltb n 1) (ltb 24 n) (le-ltb n 1 p) (le-ltb 24 n q)
-
-module _ (size : ℕ) (b : Buffers) where
-  abbrev reals : ℕ
-  reals = length (b .reals)
-
-  abbrev imags : ℕ
-  imags = length (b .imags)
-
-  pub reals-bad : (reals ≡ size → ⊥) → badLength size b ≡ true
-  reals-bad h = or-first (not (eqb reals size)) (not (eqb imags size)) (differs reals size h)
-
-  pub imags-bad : (imags ≡ size → ⊥) → badLength size b ≡ true
-  imags-bad h = or-second (not (eqb reals size)) (not (eqb imags size)) (differs imags size h)
-
-  pub length-good : reals ≡ size → imags ≡ size → badLength size b ≡ false
-  length-good p q = or-neither (not (eqb reals size)) (not (eqb imags size)) (agrees reals size p) (agrees imags size q)
-
-module _ (n t : ℕ) (c : Controls) where
-  pub target-bad : n ≤ t → (leb n t || outside n c) ≡ true
-  target-bad h = or-first (leb n t) (outside n c) (le-leb n t h)
-
-  pub mask-bad : 2 ^ n ≤ c .ones → (leb n t || outside n c) ≡ true
-  mask-bad h = or-second (leb n t) (outside n c) (le-leb (2 ^ n) (c .ones) h)
-
-  pub qubits-good : t < n → c .ones < 2 ^ n → (leb n t || outside n c) ≡ false
-  qubits-good p q = or-neither (leb n t) (outside n c) (lt-leb n t p) (lt-leb (2 ^ n) (c .ones) q)
+pub ruleset seats = (seat-out, seat-long, seat-far, seat-same, seat-form, seat-passed)

@@ -9,7 +9,7 @@ use borrow.Author.Tests.{ltb-false, leb-false, eqb-false, le-ltb, lt-leb, ne-eqb
 use lib.Count.{ones, ones-le}
 use lib.Dec.{eqb, leb, ltb}
 use lib.Pow.{pow-pos}
-use Rattle.book.proofs.Refusals.{clear, clear-start, neither, right-lengths}
+use Rattle.book.proofs.Refusals.{clear-start, neither, right-lengths}
 use Rattle.book.specs.Answers.{first, Test, Buffers}
 use Rattle.book.specs.Kernels.{badSize, mostQubits, badLength, sizeTests, outside, clash, count, seatTests}
 use Rattle.book.specs.State.{bit, uncontrolled}
@@ -38,11 +38,6 @@ seated most n t c b own e =
       inside = leb-false (2 ^ n) (c .ones) (inside .1);
       free = zero-bit t (c .ones) other;
     }
-
--- after tests 1 and 2 alone
-pub sized-fits : (n : ℕ) (b : Buffers) → first (sizeTests n b) ≡ 0 → n ≤ 24
-unfolding sizeTests
-sized-fits n b e = ltb-false 24 n (neither (ltb n 1) (ltb 24 n) (clear (sizeTests n b) tt e .0) .1)
 
 -- ---- without controls tests 3, 4 and 5 look at the target alone
 

@@ -1,4 +1,5 @@
 // What every matrix call asks first: n from 1 to 6, and each buffer of exactly its length. With it go the laws of stretches of places that were filled.
+pub use sizes::bad_length;
 ghost use mathlib.Core.Bool.{_||_};
 ghost use mathlib.Core.Path.{_≡_};
 ghost use Rattle.book.specs.Kernels.{badSize, badLength};
@@ -12,20 +13,7 @@ const MOST_MATRIX: u32 = 6;
 pub fn bad_size(n: u32) -> bool
     ensures { λ r. ⌜ r ≡ badSize mostMatrix n ⌝ }
 {
-    if n < 1 {
-        return true;
-    }
-    MOST_MATRIX < n
-}
-
-// A buffer is not of exactly the length that is asked.
-pub fn bad_length(reals: &[f64], imags: &[f64], size: usize) -> bool
-    ensures { λ r. ⌜ r ≡ badLength size (before reals imags) ⌝ }
-{
-    if reals.len() != size {
-        return true;
-    }
-    imags.len() != size
+    sizes::bad_size(n, MOST_MATRIX)
 }
 
 // One of three pairs of buffers is not of its length.

@@ -1,3 +1,2 @@
--- Dots: the sums of products. Products: a call, refused or taken.
-mod Dots
+-- Products: a call, refused or taken.
 mod Products

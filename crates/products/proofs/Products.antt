@@ -16,7 +16,8 @@ use Rattle.matrices.proofs.Fills.{whole}
 use Rattle.matrices.proofs.Judged.{most-is, held-places, wrong-size, wrong-length, right}
 use Rattle.matrices.proofs.Sides.{shifted, side-is}
 use Rattle.matrices.specs.Filled.{Holds, Filled}
-use Rattle.products.specs.Sums.{rowDot, productAt, stateDot}
+use Rattle.dots.specs.Dots.{stateDot}
+use Rattle.row_sums.specs.Sums.{rowDot, productAt}
 
 -- ---- the refusals of both products
 

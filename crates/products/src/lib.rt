@@ -1,14 +1,11 @@
 // The two products of unitaries.rs over lent buffers: a matrix times a matrix, and a matrix times a state. Each call is judged before the first store.
 
-mod places;
-mod sums;
-
 use book::Answer;
 use book::Refusal;
+use dots::fill_state;
 use matrices::bad_lengths;
 use matrices::bad_size;
-use sums::fill_product;
-use sums::fill_state;
+use row_sums::fill_product;
 ghost use Rattle.book.specs.Answers.{Does};
 ghost use Rattle.book.specs.Lent.{before, after};
 ghost use Rattle.book.specs.Matrices.{product, productState};

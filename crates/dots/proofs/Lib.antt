@@ -1,0 +1,2 @@
+-- Rows: a row times a state.
+mod Rows

@@ -1,0 +1,2 @@
+-- The words of the loops' contracts.
+pub mod Dots

@@ -1,0 +1,16 @@
+-- `judging::far` meets its contract, test by test. Assumes nothing.
+use native.Mathlib.Nat.{mod-lt, zero-lt-suc}
+use borrow.Author.Needs.{needs}
+use borrow.Author.Tests.{le-leb, lt-leb}
+use Rattle.judging.proofs.Shifts.{shl-one}
+use Rattle.judging.proofs.far.Statement.{statement}
+use Rattle.judging.proofs.far.Tie as tie
+
+returns : tie.Need-returns
+returns c = rw (le-leb _ _ (c .if1 .taken))
+
+returns-2 : tie.Need-returns-2
+returns-2 c = rw (lt-leb _ _ (c .if1 .left), shl-one 32 _ (mod-lt (c .before .args .n) (zero-lt-suc 31)))
+
+pub far-spec : {M : Type 1} → statement M
+far-spec = tie.close (tie.spec (λ c. search needs) returns returns-2)

@@ -1,0 +1,2 @@
+-- Rows: a row of the product.
+mod Rows

@@ -1,0 +1,2 @@
+-- Dots: sums of products.
+pub mod Dots
