@@ -10,7 +10,7 @@ use borrow.Author.Needs.{needs}
 use Rattle.book.specs.Answers.{gives, denied, orDenied}
 use Rattle.book.specs.Records.{recordWith, rowOf, readRow}
 use Rattle.book.specs.declared.Gate.{Gate}
-use Rattle.masks.proofs.Answered.{record-by}
+use Rattle.codes.proofs.Answered.{record-by}
 use Rattle.fields.specs.Answers.{numberField}
 use Rattle.fields.specs.declared.Field.the-variants.{Number}
 use Rattle.shapes.specs.Gates.{madeOf}

@@ -31,9 +31,9 @@ use Rattle.fields.specs.declared.PairField.{PairField}
 use Rattle.fields.specs.declared.PairField.the-variants.{Floats, Missing as NoPair}
 use Rattle.fields.specs.declared.AnglesField.{AnglesField}
 use Rattle.fields.specs.declared.AnglesField.the-variants.{Angles as Eight, Missing as NoAngles}
-use Rattle.masks.specs.Masks.{maskThere, maskAnswer}
-use Rattle.masks.specs.declared.MaskField.{MaskField}
-use Rattle.masks.specs.declared.MaskField.the-variants.{Controls as Mask, Missing as NoMask}
+use Rattle.codes.specs.Masks.{maskThere, maskAnswer}
+use Rattle.codes.specs.declared.MaskField.{MaskField}
+use Rattle.codes.specs.declared.MaskField.the-variants.{Controls as Mask, Missing as NoMask}
 
 -- ---- going on from what is there, and from the place behind it
 

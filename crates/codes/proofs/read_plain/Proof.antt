@@ -1,13 +1,13 @@
--- `masks::read_plain` reads a gate of codes 1 to 4: the field's answer decides, and then that nothing stands behind it. Assumes nothing.
+-- `codes::read_plain` reads a gate of codes 1 to 4: the field's answer decides, and then that nothing stands behind it. Assumes nothing.
 use mathlib.Core.Path.{sym, ap, _∙_}
 use lib.ListN.{length}
 use borrow.Author.Needs.{needs}
 use borrow.Author.Tests.{eq-eqb, ne-eqb}
 use Rattle.shapes.specs.Gates.{plainGate}
 use Rattle.shapes.specs.declared.Made.the-variants.{Gate as Made}
-use Rattle.masks.proofs.Answered.{plain-by}
-use Rattle.masks.proofs.read_plain.Statement.{statement}
-use Rattle.masks.proofs.read_plain.Tie as tie
+use Rattle.codes.proofs.Answered.{plain-by}
+use Rattle.codes.proofs.read_plain.Statement.{statement}
+use Rattle.codes.proofs.read_plain.Tie as tie
 
 returns : tie.Need-returns
 returns c =
