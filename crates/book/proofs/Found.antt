@@ -1,4 +1,5 @@
--- How one delivery more changes the longest start found in order: by what is found in a list with one place more at its end. Assumes nothing.
+-- How one delivery more changes the longest start found in order: by what is found in a list with one place more at its end. And there is one longest start.
+-- Assumes nothing.
 use Prim.Native.Nat.{ℕ, zero, suc, _+_, _≤_, _<_}
 use native.Mathlib.Omega.{arith}
 use native.Mathlib.Numerals.{add-one}
@@ -84,3 +85,7 @@ module _ {A : Type 0} where
           let (i, p, q, r) = w in
           let room : suc i ≤ length rs = omega arith in
           omega (arith, shorter l i room q a)
+
+  -- there is one longest start
+  pub longest-one : {j k : ℕ} {rs ys : List A} → Longest j rs ys → Longest k rs ys → j ≡ k
+  longest-one {j} {k} x y = omega (arith, y .most j (x .within) (x .found), x .most k (y .within) (y .found))

@@ -58,7 +58,7 @@ module _ {n own : ℕ} {b : Buffers} {rs : List Record} (g : Given n own b rs) w
 pub all-once : (s : Session) (b : Buffers) (ds : List (List ℕ)) (s′ : Session) (b′ : Buffers) → bench s′ b′ ≡ deliverAll (bench s b) ds → AllOnce s b ds s′ b′
 all-once s b ds s′ b′ run =
     record {
-      run = run;
+      run = search;
       once = λ rs g zero all.
           let fresh : session (s .n) (s .number) 0 ≡ s = λ i. session (s .n) (s .number) (sym zero i) in
           subst (λ (x : Bench). Once (s .n) b rs (seen ds) (x .session .count) (x .state))
