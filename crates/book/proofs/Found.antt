@@ -7,12 +7,16 @@ use mathlib.Core.Logic.{_⊎_, inl, inr, ⊎-elim}
 use mathlib.Core.Path.{_≡_, refl, sym, ap, _∙_, subst}
 use mathlib.Core.List.{List, [], _∷_, _++_}
 use lib.ListN.{length, take, getD}
-use lib.Seq.{take-suc}
+use lib.Seq.{length-take-le, take-suc}
 use Rattle.book.specs.ExactlyOnce.{FoundIn, done, skip, keep, Longest}
 
 module _ {A : Type 0} where
-  pub found-nil : {xs : List A} → FoundIn xs [] → xs ≡ []
+  found-nil : {xs : List A} → FoundIn xs [] → xs ≡ []
   found-nil done = refl
+
+  -- before any delivery
+  pub longest-none : (rs : List A) → Longest 0 rs []
+  longest-none rs = record { within = omega arith; found = done; most = λ j h a. omega (arith, length-take-le j rs h, ap length (found-nil a)) }
 
   found-more : {xs ys : List A} (y : A) → FoundIn xs ys → FoundIn xs (ys ++ (y ∷ []))
   found-more y done = skip done
