@@ -12,16 +12,15 @@ use native.Mathlib.Omega.{arith}
 use borrow.Author.Tests.{lt-ltb, le-ltb, eq-eqb, ne-eqb, ltb-true, ltb-false}
 use lib.Dec.{ltb, eqb}
 use lib.ListN.{length, take, drop, getD, take-append-drop}
-use lib.Seq.{length-take-le}
 use Rattle.book.specs.Answers.{refused, again, said, Replied, first, Buffers, outcomeOf, accepts}
 use Rattle.book.specs.Calls.{callOf, act}
-use Rattle.book.specs.ExactlyOnce.{FoundIn, done, Longest, In, Numbered, give, OneOf, AllOf, cons, seen, Given, ExactlyOnce, KeepsItsOwn}
+use Rattle.book.specs.ExactlyOnce.{Longest, In, Numbered, give, OneOf, AllOf, cons, seen, Given, ExactlyOnce, KeepsItsOwn}
 use Rattle.book.specs.Kernels.{badSize, mostQubits, badLength, sizeTests}
 use Rattle.book.specs.Records.{readRecord}
 use Rattle.book.specs.Sessions.{Session, session, raised, Delivery, kept, counted, standing, takeRecord, takeRead, takeSized, deliver, deliverAll}
 use Rattle.book.specs.declared.Record.{Record}
 use Rattle.book.proofs.Calls.{sized-right}
-use Rattle.book.proofs.Found.{longest-same, longest-next, found-nil}
+use Rattle.book.proofs.Found.{longest-none, longest-same, longest-next}
 use Rattle.book.proofs.Lengths.{act-fits}
 use Rattle.book.proofs.Refusals.{sizes-numbered, sizes-right}
 
@@ -249,13 +248,10 @@ module _ (n own : ℕ) (b₀ : Buffers) (rs : List Record) (g : Given n own b₀
         n-is = ap (λ (s : Session). s .n) is;
         own-is = ap (λ (s : Session). s .number) is;
         count = ap (λ (s : Session). s .count) is;
-        longest = record { within = omega arith; found = done; most = none-found };
+        longest = longest-none rs;
         state = refl;
         fits = g .fits;
       }
-    where
-      none-found : (j : ℕ) → j ≤ length rs → FoundIn (take j rs) [] → j ≤ 0
-      none-found j h m = omega (arith, length-take-le j rs h, ap length (found-nil m))
 
 seen-append : (ds : List (List ℕ)) (bytes : List ℕ) → seen ds ++ cons (readRecord bytes) [] ≡ seen (ds ++ (bytes ∷ []))
 seen-append [] bytes = refl

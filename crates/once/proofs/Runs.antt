@@ -1,15 +1,12 @@
 -- What comes to the book's run is exactly once: by the book's theorem, of the list but for its last delivery and of that one; before any delivery nothing was
 -- found. So two results of the same deliveries are the same. Assumes nothing.
-use Prim.Native.Nat.{ℕ, _≤_}
+use Prim.Native.Nat.{ℕ}
 use mathlib.Core.List.{List, [], _∷_, _++_}
 use mathlib.Core.Path.{_≡_, refl, sym, ap, _∙_, subst}
-use native.Mathlib.Omega.{arith}
-use lib.ListN.{length, take}
-use lib.Seq.{length-take-le}
 use Rattle.book.proofs.ExactlyOnce.{exactly-once, fresh-is}
-use Rattle.book.proofs.Found.{found-nil}
+use Rattle.book.proofs.Found.{longest-none}
 use Rattle.book.specs.Answers.{Buffers}
-use Rattle.book.specs.ExactlyOnce.{FoundIn, done, OneOf, AllOf, seen, Given, Once}
+use Rattle.book.specs.ExactlyOnce.{OneOf, AllOf, seen, Given, Once}
 use Rattle.book.specs.Sessions.{Session, Bench, session, deliver, deliverAll}
 use Rattle.book.specs.declared.Record.{Record}
 use Rattle.once.specs.AllOnce.{bench, AllOnce}
@@ -38,10 +35,7 @@ module _ {n own : ℕ} {b : Buffers} {rs : List Record} (g : Given n own b rs) w
 
   -- before any delivery
   before-any : After [] (bench (session n own 0) b)
-  before-any = record { k = 0; counts = refl; longest = record { within = omega arith; found = done; most = none-found }; state = refl }
-    where
-      none-found : (j : ℕ) → j ≤ length rs → FoundIn (take j rs) [] → j ≤ 0
-      none-found j h m = omega (arith, length-take-le j rs h, ap length (found-nil m))
+  before-any = record { k = 0; counts = refl; longest = longest-none rs; state = refl }
 
   after-last : (ds : List (List ℕ)) (bytes : List ℕ) → AllOf own rs (ds ++ (bytes ∷ []))
       → After (ds ++ (bytes ∷ [])) (deliverAll (bench (session n own 0) b) (ds ++ (bytes ∷ [])))
@@ -58,7 +52,7 @@ module _ {n own : ℕ} {b : Buffers} {rs : List Record} (g : Given n own b rs) w
 pub all-once : (s : Session) (b : Buffers) (ds : List (List ℕ)) (s′ : Session) (b′ : Buffers) → bench s′ b′ ≡ deliverAll (bench s b) ds → AllOnce s b ds s′ b′
 all-once s b ds s′ b′ run =
     record {
-      run = run;
+      run = search;
       once = λ rs g zero all.
           let fresh : session (s .n) (s .number) 0 ≡ s = λ i. session (s .n) (s .number) (sym zero i) in
           subst (λ (x : Bench). Once (s .n) b rs (seen ds) (x .session .count) (x .state))

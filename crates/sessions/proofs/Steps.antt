@@ -80,7 +80,9 @@ module _ (s : Session) (b : Buffers) {a : Delivered} {k : Counted} (e : a ≡ to
       c .counts ∙ ap₂ (λ (x : Said) (j : ℕ). cond (accepts x) j (s .count)) (d .answers) one in
       rw e (by (accepts (o .says)) o (refused-keeps b (callOf (s .n) (r .gate) b) (sizeTests (s .n) b)) counts (c .reply ∙ ap said (d .answers)) (d .leaves))
     where
-      by : (t : Bool) (o : Outcome) → (t ≡ false → o .left ≡ b) → k .count ≡ cond t (s .count + 1) (s .count) → replies (k .reply) ≡ said (o .says) → b′ ≡ o .left
-          → Delivers (cond t (record { next = raised (meant s) bytes; says = said (o .says); left = o .left }) (kept (meant s) b (said (o .says)))) (told s k) b′
+      by : (t : Bool) (o : Outcome) → (t ≡ false → o .left ≡ b) → k .count ≡ cond t (s .count + 1) (s .count) → replies (k .reply) ≡ said (o .says)
+          → b′ ≡ o .left
+          → let taken : Book.Delivery = record { next = raised (meant s) bytes; says = said (o .says); left = o .left } in
+          Delivers (cond t taken (kept (meant s) b (said (o .says)))) (told s k) b′
       by true o keeps c x l = record { next = search (counts-are c); reply = search; count = search; leaves = search }
       by false o keeps c x l = record { next = search (counts-are c); reply = search; count = search; leaves = search (l ∙ keeps refl) }

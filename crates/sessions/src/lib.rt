@@ -91,7 +91,7 @@ impl Session {
         }
     }
 
-    // Deliveries that lie one behind the other in `bytes`, each of the next of `lengths`: whatever they are, each record is run once.
+    // Deliveries one after the other, which lie so in `bytes`; `lengths` says how many bytes each takes. Whatever comes, each record is run once.
     pub fn deliver_all(
         self,
         bytes: &[u8],
