@@ -1,10 +1,11 @@
 // Conjugate transpose in place. Each place is exchanged with its mirror when the earlier of the two is reached, both negated on the way; a place of the
 // diagonal is its own mirror.
+// An inner room: its caller, unitaries, is proved to have judged the numbers that are asked.
 ghost use mathlib.Core.Path.{_≡_};
 ghost use Prim.Native.Nat.{_+_, _*_, _/_, _%_, _≤_, _<_};
 ghost use Rattle.book.specs.Lent.{before, after, here};
 ghost use Rattle.matrices.specs.Filled.{Holds};
-ghost use Rattle.unitaries.specs.Mirrored.{mirror, Crossed, TurnedAt, Turned};
+ghost use Rattle.transposes.specs.Mirrored.{mirror, Crossed, TurnedAt, Turned};
 
 // The place with row and column exchanged.
 fn mirror_of(place: usize, side: usize) -> usize
@@ -41,7 +42,7 @@ fn turn_at(reals: &mut [f64], imags: &mut [f64], place: usize, side: usize)
     cross(reals, imags, place, other);
 }
 
-pub(crate) fn turn_all(reals: &mut [f64], imags: &mut [f64], side: usize)
+pub fn turn_all(reals: &mut [f64], imags: &mut [f64], side: usize)
     requires { ⌜ (side ≤ 64) × Holds (side * side) (here reals imags) ⌝ }
     ensures { λ _. ⌜ Turned side (side * side) (before reals imags) (after reals imags) ⌝ }
 {

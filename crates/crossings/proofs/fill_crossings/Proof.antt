@@ -1,4 +1,4 @@
--- `unitaries::crossing::fill_crossings` meets its contract: one place more in each turn. Assumes nothing.
+-- `crossings::fill_crossings` meets its contract: one place more in each turn. Assumes nothing.
 use Prim.Native.Nat.{_+_, _-_, _/_, _%_, _≤_}
 use native.Mathlib.Omega.{arith}
 use borrow.Author.Needs.{needs}
@@ -7,8 +7,8 @@ use Rattle.book.specs.Matrices.{crossing}
 use Rattle.matrices.proofs.Fills.{stored, nothing, held-next, one-more, done}
 use Rattle.matrices.proofs.Sides.{square-fits}
 use Rattle.matrices.specs.Filled.{Holds, Filled}
-use Rattle.unitaries.proofs.crossing.fill_crossings.Statement.{statement}
-use Rattle.unitaries.proofs.crossing.fill_crossings.Tie as tie
+use Rattle.crossings.proofs.fill_crossings.Statement.{statement}
+use Rattle.crossings.proofs.fill_crossings.Tie as tie
 
 abbrev Inv-loop : tie.InvT-loop
 Inv-loop reals₀ imags₀ target side entries size place₀ reals imags place =

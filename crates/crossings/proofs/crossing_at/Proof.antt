@@ -1,10 +1,10 @@
--- `unitaries::crossing::crossing_at` meets its contract, by whether row and column belong to one pair. Assumes nothing.
+-- `crossings::crossing_at` meets its contract, by whether row and column belong to one pair. Assumes nothing.
 use mathlib.Core.Path.{sym, _∙_}
 use borrow.Author.Needs.{needs}
 use Rattle.matrices.proofs.Fills.{zero-is}
-use Rattle.unitaries.proofs.Crossings.{off-crossing, on-crossing}
-use Rattle.unitaries.proofs.crossing.crossing_at.Statement.{statement}
-use Rattle.unitaries.proofs.crossing.crossing_at.Tie as tie
+use Rattle.crossings.proofs.Crossings.{off-crossing, on-crossing}
+use Rattle.crossings.proofs.crossing_at.Statement.{statement}
+use Rattle.crossings.proofs.crossing_at.Tie as tie
 
 returns : tie.Need-returns
 returns c =

@@ -1,10 +1,10 @@
--- `unitaries::transpose::turn_at` meets its contract, by which of a place and its mirror comes first. Assumes nothing.
+-- `transposes::turn_at` meets its contract, by which of a place and its mirror comes first. Assumes nothing.
 use native.Mathlib.Omega.{arith}
 use borrow.Author.Needs.{needs}
 use Rattle.matrices.proofs.Fills.{fewer}
-use Rattle.unitaries.proofs.Mirrors.{mirror-lt, left-alone, turned-at}
-use Rattle.unitaries.proofs.transpose.turn_at.Statement.{statement}
-use Rattle.unitaries.proofs.transpose.turn_at.Tie as tie
+use Rattle.transposes.proofs.Mirrors.{mirror-lt, left-alone, turned-at}
+use Rattle.transposes.proofs.turn_at.Statement.{statement}
+use Rattle.transposes.proofs.turn_at.Tie as tie
 
 returns : tie.Need-returns
 returns c = left-alone _ (c .before .mirror-of .ensures) (c .if1 .taken)

@@ -1,4 +1,5 @@
 // A matrix from four amplitudes and a target: those at the pairs' crossings, 0.0 elsewhere.
+// An inner room: its caller, unitaries, is proved to have judged the numbers that are asked.
 use book::Amplitude;
 use book::Matrix;
 ghost use mathlib.Core.Path.{_≡_};
@@ -28,7 +29,7 @@ fn crossing_at(matrix: Matrix, target: u32, row: usize, column: usize) -> Amplit
     entries[2 * ((row >> target) % 2) + (column >> target) % 2]
 }
 
-pub(crate) fn fill_crossings(
+pub fn fill_crossings(
     reals: &mut [f64],
     imags: &mut [f64],
     matrix: Matrix,

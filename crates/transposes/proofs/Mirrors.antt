@@ -17,7 +17,7 @@ use Rattle.book.specs.State.{at, held}
 use Rattle.book.specs.declared.Amplitude.{Amplitude}
 use Rattle.matrices.proofs.Fills.{stored, holds, same-size}
 use Rattle.matrices.specs.Filled.{Holds, Filled}
-use Rattle.unitaries.specs.Mirrored.{mirror, Crossed, TurnedAt, Turned}
+use Rattle.transposes.specs.Mirrored.{mirror, Crossed, TurnedAt, Turned}
 
 pub side-pos : (side place : ℕ) → place < side * side → 0 < side
 side-pos zero place l = absurd (let z : zero * zero ≡ 0 = zero-mul zero in omega arith)

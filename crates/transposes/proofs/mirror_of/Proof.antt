@@ -1,10 +1,10 @@
--- `unitaries::transpose::mirror_of` meets its contract: the mirror is within the matrix, so nothing wraps. Assumes nothing.
+-- `transposes::mirror_of` meets its contract: the mirror is within the matrix, so nothing wraps. Assumes nothing.
 use native.Mathlib.Nat.{mod-lt}
 use native.Mathlib.Omega.{arith}
 use Rattle.matrices.proofs.Sides.{square-le, start-fits}
-use Rattle.unitaries.proofs.Mirrors.{side-pos, mirror-is, mirror-sum-lt}
-use Rattle.unitaries.proofs.transpose.mirror_of.Statement.{statement}
-use Rattle.unitaries.proofs.transpose.mirror_of.Tie as tie
+use Rattle.transposes.proofs.Mirrors.{side-pos, mirror-is, mirror-sum-lt}
+use Rattle.transposes.proofs.mirror_of.Statement.{statement}
+use Rattle.transposes.proofs.mirror_of.Tie as tie
 
 rem-result : tie.Need-rem-result
 rem-result c = omega (arith, side-pos _ _ (c .pre .0))

@@ -1,11 +1,11 @@
--- `unitaries::crossing::without_target` meets its contract: the bit taken off is part of the index. Assumes nothing.
+-- `crossings::without_target` meets its contract: the bit taken off is part of the index. Assumes nothing.
 use Prim.Native.Nat.{_≤_}
 use native.Mathlib.Omega.{arith}
 use borrow.Author.Needs.{needs}
 use Rattle.matrices.proofs.Sides.{side-is}
-use Rattle.unitaries.proofs.Crossings.{bit-part-le, bit-part-lt}
-use Rattle.unitaries.proofs.crossing.without_target.Statement.{statement}
-use Rattle.unitaries.proofs.crossing.without_target.Tie as tie
+use Rattle.crossings.proofs.Crossings.{bit-part-le, bit-part-lt}
+use Rattle.crossings.proofs.without_target.Statement.{statement}
+use Rattle.crossings.proofs.without_target.Tie as tie
 
 mul-result : tie.Need-mul-result
 mul-result c =

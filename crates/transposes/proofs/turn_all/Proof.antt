@@ -1,4 +1,4 @@
--- `unitaries::transpose::turn_all` meets its contract: one place more in each turn. Assumes nothing.
+-- `transposes::turn_all` meets its contract: one place more in each turn. Assumes nothing.
 use Prim.Native.Nat.{_-_, _*_, _≤_}
 use mathlib.Core.Path.{_≡_}
 use native.Mathlib.Omega.{arith}
@@ -6,10 +6,10 @@ use borrow.Author.Needs.{needs}
 use Rattle.book.specs.Answers.{buffers}
 use Rattle.matrices.proofs.Fills.{same-holds}
 use Rattle.matrices.proofs.Sides.{square-fits}
-use Rattle.unitaries.specs.Mirrored.{Turned}
-use Rattle.unitaries.proofs.Mirrors.{turned-none, turned-more}
-use Rattle.unitaries.proofs.transpose.turn_all.Statement.{statement}
-use Rattle.unitaries.proofs.transpose.turn_all.Tie as tie
+use Rattle.transposes.specs.Mirrored.{Turned}
+use Rattle.transposes.proofs.Mirrors.{turned-none, turned-more}
+use Rattle.transposes.proofs.turn_all.Statement.{statement}
+use Rattle.transposes.proofs.turn_all.Tie as tie
 
 abbrev Inv-loop : tie.InvT-loop
 Inv-loop reals₀ imags₀ side size place₀ reals imags place = (place ≤ size) × Turned side place (buffers reals₀ imags₀) (buffers reals imags)

@@ -1,10 +1,10 @@
--- `unitaries::transpose::cross` meets its contract: two places read, then written. Assumes nothing.
+-- `transposes::cross` meets its contract: two places read, then written. Assumes nothing.
 use native.Mathlib.Omega.{arith}
 use borrow.Author.Needs.{needs}
 use lib.ListN.{length-set}
-use Rattle.unitaries.proofs.Mirrors.{crossed-stores}
-use Rattle.unitaries.proofs.transpose.cross.Statement.{statement}
-use Rattle.unitaries.proofs.transpose.cross.Tie as tie
+use Rattle.transposes.proofs.Mirrors.{crossed-stores}
+use Rattle.transposes.proofs.cross.Statement.{statement}
+use Rattle.transposes.proofs.cross.Tie as tie
 
 slice-write-reals-2 : tie.Need-slice-write-reals-2
 slice-write-reals-2 c = rw length-set (omega (arith, c .before .before .before .before .pre .1 .reals))
