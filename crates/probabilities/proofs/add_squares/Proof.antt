@@ -1,4 +1,4 @@
--- `chances::add_squares` meets its contract: one square more in each turn. Assumes nothing.
+-- `probabilities::add_squares` meets its contract: one square more in each turn. Assumes nothing.
 use Prim.Native.Nat.{_-_, _≤_}
 use mathlib.Core.Path.{_≡_}
 use native.Mathlib.Omega.{arith}
@@ -6,9 +6,9 @@ use borrow.Author.Needs.{needs}
 use Rattle.book.specs.Answers.{buffers}
 use Rattle.book.specs.Measuring.{summed}
 use Rattle.book.specs.State.{at}
-use Rattle.chances.proofs.Sums.{sum-takes}
-use Rattle.chances.proofs.add_squares.Statement.{statement}
-use Rattle.chances.proofs.add_squares.Tie as tie
+use Rattle.probabilities.proofs.Sums.{sum-takes}
+use Rattle.probabilities.proofs.add_squares.Statement.{statement}
+use Rattle.probabilities.proofs.add_squares.Tie as tie
 
 abbrev Inv-loop : tie.InvT-loop
 Inv-loop reals imags from to start target sum₀ i₀ sum i = (from ≤ i) × (i ≤ to) × (sum ≡ summed target 0 (at (buffers reals imags)) i)

@@ -1,12 +1,12 @@
--- `codes::read_u` reads a U: each field's answer decides, and then that nothing stands behind the second. Assumes nothing.
+-- `masked::read_u` reads a U: each field's answer decides, and then that nothing stands behind the second. Assumes nothing.
 use mathlib.Core.Path.{sym, ap, _∙_}
 use lib.ListN.{length}
 use borrow.Author.Needs.{needs}
 use borrow.Author.Tests.{eq-eqb, ne-eqb}
 use Rattle.book.specs.declared.Gate.the-variants.{U}
-use Rattle.codes.proofs.Answered.{eight-by}
-use Rattle.codes.proofs.read_u.Statement.{statement}
-use Rattle.codes.proofs.read_u.Tie as tie
+use Rattle.masked.proofs.Answered.{eight-by}
+use Rattle.masked.proofs.read_u.Statement.{statement}
+use Rattle.masked.proofs.read_u.Tie as tie
 
 returns : tie.Need-returns
 returns c =

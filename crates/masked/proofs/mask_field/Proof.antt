@@ -1,4 +1,4 @@
--- `codes::mask_field` answers the mask of field 05, which fits a u32, and the place behind it. Assumes nothing.
+-- `masked::mask_field` answers the mask of field 05, which fits a u32, and the place behind it. Assumes nothing.
 use Prim.Native.Nat.{ℕ, _+_}
 use native.Mathlib.Omega.{arith}
 use mathlib.Core.Option.{Option, some, none}
@@ -10,10 +10,10 @@ use Rattle.book.specs.State.{controlled}
 use Rattle.book.specs.declared.Controls.{Controls}
 use Rattle.fields.specs.Answers.{numberThere, holding}
 use Rattle.fields.specs.declared.Field.the-variants.{Number, Missing}
-use Rattle.codes.specs.Masks.{maskThere}
-use Rattle.codes.specs.declared.MaskField.the-variants.{Controls as Mask, Missing as NoMask}
-use Rattle.codes.proofs.mask_field.Statement.{statement}
-use Rattle.codes.proofs.mask_field.Tie as tie
+use Rattle.masked.specs.Masks.{maskThere}
+use Rattle.masked.specs.declared.MaskField.the-variants.{Controls as Mask, Missing as NoMask}
+use Rattle.masked.proofs.mask_field.Statement.{statement}
+use Rattle.masked.proofs.mask_field.Tie as tie
 
 none-mask : (k : ℕ) (o : Option ℕ) → numberThere k o ≡ Missing → NoMask ≡ maskThere k o
 none-mask k (some n) e = let z : _≡_ {A = ℕ} 0 1 = cc in absurd (omega arith)

@@ -6,8 +6,8 @@ use lib.ListN.{drop}
 use Rattle.book.specs.Records.{number}
 use Rattle.book.specs.State.{controlled}
 use Rattle.fields.specs.Answers.{holding}
-use Rattle.codes.specs.declared.MaskField.{MaskField}
-use Rattle.codes.specs.declared.MaskField.the-variants.{Controls as Mask, Missing as NoMask}
+use Rattle.masked.specs.declared.MaskField.{MaskField}
+use Rattle.masked.specs.declared.MaskField.the-variants.{Controls as Mask, Missing as NoMask}
 
 abbrev pub maskThere : ℕ → Option ℕ → MaskField
 maskThere behind (some n) = Mask (controlled n) behind

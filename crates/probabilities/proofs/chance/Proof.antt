@@ -1,8 +1,8 @@
--- `chances::chance` meets its contract, by the outcome. Assumes nothing.
+-- `probabilities::chance` meets its contract, by the outcome. Assumes nothing.
 use borrow.Author.Needs.{needs}
-use Rattle.chances.proofs.Sums.{chance-0, chance-1}
-use Rattle.chances.proofs.chance.Statement.{statement}
-use Rattle.chances.proofs.chance.Tie as tie
+use Rattle.probabilities.proofs.Sums.{chance-0, chance-1}
+use Rattle.probabilities.proofs.chance.Statement.{statement}
+use Rattle.probabilities.proofs.chance.Tie as tie
 
 returns : tie.Need-returns
 returns c = chance-0 _ _ _ _ (c .if1 .taken) (c .before .sum-lower .ensures)

@@ -10,7 +10,7 @@ use Rattle.book.specs.Answers.{Buffers}
 use Rattle.book.specs.Gates.{_⊕_}
 use Rattle.book.specs.Measuring.{square, summed, probability}
 use Rattle.book.specs.State.{State, at, bit, uncontrolled}
-use Rattle.chances.specs.Stretches.{Lower}
+use Rattle.probabilities.specs.Stretches.{Lower}
 use Rattle.judging.specs.Judging.{Seated}
 use Rattle.pairs.proofs.Blocks.{Base, first, room, next, low, high, ended}
 

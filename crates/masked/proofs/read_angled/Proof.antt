@@ -1,13 +1,13 @@
--- `codes::read_angled` reads a gate of codes 5 to 8: each field's answer decides, and then that nothing stands behind the second. Assumes nothing.
+-- `masked::read_angled` reads a gate of codes 5 to 8: each field's answer decides, and then that nothing stands behind the second. Assumes nothing.
 use mathlib.Core.Path.{sym, ap, _∙_}
 use lib.ListN.{length}
 use borrow.Author.Needs.{needs}
 use borrow.Author.Tests.{eq-eqb, ne-eqb}
 use Rattle.shapes.specs.Gates.{angledGate}
 use Rattle.shapes.specs.declared.Made.the-variants.{Gate as Made}
-use Rattle.codes.proofs.Answered.{angled-by}
-use Rattle.codes.proofs.read_angled.Statement.{statement}
-use Rattle.codes.proofs.read_angled.Tie as tie
+use Rattle.masked.proofs.Answered.{angled-by}
+use Rattle.masked.proofs.read_angled.Statement.{statement}
+use Rattle.masked.proofs.read_angled.Tie as tie
 
 returns : tie.Need-returns
 returns c =

@@ -1,14 +1,14 @@
--- `chances::sum_lower` meets its contract: one block more in each turn. Assumes nothing.
+-- `probabilities::sum_lower` meets its contract: one block more in each turn. Assumes nothing.
 use Prim.Native.Nat.{_+_, _-_, _^_, _≤_, _<_}
 use mathlib.Core.Path.{_≡_}
 use native.Mathlib.Omega.{arith}
 use Rattle.book.specs.Answers.{buffers}
 use Rattle.judging.proofs.Shifts.{shl, shl-is}
 use Rattle.pairs.proofs.Blocks.{place-fits, nearer}
-use Rattle.chances.proofs.Sums.{Summing, sums-start, block-room, block-lower, block-done, sums-end}
-use Rattle.chances.proofs.Sums.{small}
-use Rattle.chances.proofs.sum_lower.Statement.{statement}
-use Rattle.chances.proofs.sum_lower.Tie as tie
+use Rattle.probabilities.proofs.Sums.{Summing, sums-start, block-room, block-lower, block-done, sums-end}
+use Rattle.probabilities.proofs.Sums.{small}
+use Rattle.probabilities.proofs.sum_lower.Statement.{statement}
+use Rattle.probabilities.proofs.sum_lower.Tie as tie
 
 abbrev Inv-loop : tie.InvT-loop
 Inv-loop reals imags n target size bit sum₀ base₀ sum base = Summing n target (buffers reals imags) base sum
