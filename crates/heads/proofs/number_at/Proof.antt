@@ -1,4 +1,4 @@
--- `fields::number_at` reads the number that the bytes are. The loop's invariant: n is the number of the bytes passed, and is
+-- `heads::number_at` reads the number that the bytes are. The loop's invariant: n is the number of the bytes passed, and is
 -- below 256 to the power of their count, so that up to 8 bytes have room. Assumes nothing.
 use Prim.Native.Nat.{ℕ, _≤_, _<_, _-_, _+_, _*_, _^_}
 use native.Mathlib.Nat.{pow-le-pow-right}
@@ -9,8 +9,8 @@ use lib.ListN.{take, drop, length, getD}
 use borrow.Author.Needs.{needs}
 use Rattle.book.specs.Records.{number}
 use Rattle.wire.proofs.Numbers.{number-more}
-use Rattle.fields.proofs.number_at.Statement.{statement}
-use Rattle.fields.proofs.number_at.Tie as tie
+use Rattle.heads.proofs.number_at.Statement.{statement}
+use Rattle.heads.proofs.number_at.Tie as tie
 
 abbrev Inv-loop : tie.InvT-loop
 Inv-loop bytes at width n₀ i₀ n i = (i ≤ width) × (n ≡ number (take i (drop at bytes))) × (n < 256 ^ i)

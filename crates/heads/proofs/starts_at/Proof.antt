@@ -1,12 +1,12 @@
--- `fields::starts_at` makes the three tests of `starts`, the room first. Assumes nothing.
+-- `heads::starts_at` makes the three tests of `starts`, the room first. Assumes nothing.
 use Prim.Native.Nat.{ℕ}
 use native.Mathlib.Omega.{arith}
 use mathlib.Core.Path.{ap, _∙_}
 use lib.Dec.{eqb}
-use Rattle.fields.proofs.Places.{too-short, other-tag, by-length}
+use Rattle.heads.proofs.Places.{too-short, other-tag, by-length}
 use borrow.Author.Needs.{needs}
-use Rattle.fields.proofs.starts_at.Statement.{statement}
-use Rattle.fields.proofs.starts_at.Tie as tie
+use Rattle.heads.proofs.starts_at.Statement.{statement}
+use Rattle.heads.proofs.starts_at.Tie as tie
 
 returns : tie.Need-returns
 returns c = let a = c .before .before .args in too-short (a .bytes .now) (a .at) (a .tag) (a .len) (omega arith)

@@ -1,2 +1,2 @@
 -- What the field readers' proofs share.
-mod Places
+pub mod Places
