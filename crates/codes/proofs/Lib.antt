@@ -1,2 +1,2 @@
--- Answered: the book's readings by the answers that the code takes apart.
+-- Answered: what masked shows of a whole record, passed on.
 pub mod Answered

@@ -1,85 +1,19 @@
-// The fields behind 04, by the gate's code, from a place of the bytes on. Each field hands on the place behind it.
+// The fields behind 04, by the gate's code, from a place of the bytes on: those with a mask are in the crate masked. Each field hands on the place behind it.
 ghost use mathlib.Core.Path.{_≡_};
-ghost use Prim.Native.Nat.{_≤_};
 ghost use lib.ListN.{drop};
-ghost use Rattle.book.specs.Records.{plain, angled, eight, second, forced, noisy, rowOf, readRow};
-ghost use Rattle.shapes.specs.Gates.{madeOf, plainGate, angledGate};
-ghost use Rattle.codes.specs.Masks.{maskAnswer};
-use book::Angle;
-use book::Controls;
+ghost use Rattle.book.specs.Records.{second, forced, noisy, rowOf, readRow};
+ghost use Rattle.shapes.specs.Gates.{madeOf};
 use book::Forced;
 use book::Gate;
 use book::Noise;
-use fields::AnglesField;
 use fields::Field;
 use fields::PairField;
-use fields::angles_field;
 use fields::number_field;
 use fields::pair_field;
+use masked::read_angled;
+use masked::read_plain;
+use masked::read_u;
 use shapes::Made;
-use shapes::angled_gate;
-use shapes::plain_gate;
-
-// What the field of the mask answers.
-pub enum MaskField {
-    Controls(Controls, usize),
-    Missing,
-}
-
-// Field 05.
-fn mask_field(bytes: &[u8], at: usize) -> MaskField
-    ensures { λ r. ⌜ r ≡ maskAnswer at (now (bytes .entry)) ⌝ }
-{
-    let Field::Number(mask, behind) = number_field(bytes, at, 0x05, 4) else {
-        return MaskField::Missing;
-    };
-    MaskField::Controls(Controls::of(mask as u32), behind)
-}
-
-// Codes 1 to 4: the mask, and nothing after.
-fn read_plain(bytes: &[u8], at: usize, code: u32, target: u8) -> Made
-    ensures { λ r. ⌜ r ≡ madeOf (readRow (plain (plainGate code)) target (drop at (now (bytes .entry)))) ⌝ }
-{
-    let MaskField::Controls(controls, behind) = mask_field(bytes, at) else {
-        return Made::Missing;
-    };
-    if bytes.len() != behind {
-        return Made::Missing;
-    }
-    Made::Gate(plain_gate(code, target, controls))
-}
-
-// Codes 5 to 8: the mask, cosine and sine, and nothing after.
-fn read_angled(bytes: &[u8], at: usize, code: u32, target: u8) -> Made
-    ensures { λ r. ⌜ r ≡ madeOf (readRow (angled (angledGate code)) target (drop at (now (bytes .entry)))) ⌝ }
-{
-    let MaskField::Controls(controls, next) = mask_field(bytes, at) else {
-        return Made::Missing;
-    };
-    let PairField::Floats(cosine, sine, end) = pair_field(bytes, next, 0x07) else {
-        return Made::Missing;
-    };
-    if bytes.len() != end {
-        return Made::Missing;
-    }
-    Made::Gate(angled_gate(code, target, controls, Angle { cosine, sine }))
-}
-
-// Code 9: the mask, the eight numbers of U, and nothing after.
-fn read_u(bytes: &[u8], at: usize, target: u8) -> Made
-    ensures { λ r. ⌜ r ≡ madeOf (readRow (eight Gate.U) target (drop at (now (bytes .entry)))) ⌝ }
-{
-    let MaskField::Controls(controls, next) = mask_field(bytes, at) else {
-        return Made::Missing;
-    };
-    let AnglesField::Angles(angles, behind) = angles_field(bytes, next, 0x08) else {
-        return Made::Missing;
-    };
-    if bytes.len() != behind {
-        return Made::Missing;
-    }
-    Made::Gate(Gate::U(target, controls, angles))
-}
 
 // Code 10: the second qubit, and nothing after.
 fn read_swap(bytes: &[u8], at: usize, target: u8) -> Made

@@ -15,7 +15,7 @@ use Rattle.book.specs.Measuring.{collapsed}
 use Rattle.book.specs.State.{State, amplitude, at, held, bit, uncontrolled}
 use Rattle.book.specs.declared.Amplitude.{Amplitude}
 use Rattle.pairs.proofs.Halves.{turn-none, turn-join, turn-one}
-use Rattle.chances.specs.Stretches.{Stretch}
+use Rattle.probabilities.specs.Stretches.{Stretch}
 use Rattle.collapses.specs.Halves.{halfOf, Remade}
 use Rattle.judging.specs.Judging.{Seated}
 use Rattle.pairs.proofs.Blocks.{Base, first, room, next, low, high, ended}

@@ -5,7 +5,7 @@ ghost use Prim.Native.Nat.{_+_, _<_, _^_};
 ghost use Rattle.book.specs.Lent.{before, after, here};
 ghost use Rattle.book.specs.Measuring.{collapsed};
 ghost use Rattle.book.specs.State.{at, held, uncontrolled};
-ghost use Rattle.chances.specs.Stretches.{Stretch};
+ghost use Rattle.probabilities.specs.Stretches.{Stretch};
 ghost use Rattle.collapses.specs.Halves.{scaled, cleared, halfOf, Remade};
 ghost use Rattle.judging.specs.Judging.{Seated};
 

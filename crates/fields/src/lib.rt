@@ -1,10 +1,12 @@
 // Fields of a gate record, read at a place of the bytes. Each answers what it holds and the place behind it, or that it is not there as listed.
 ghost use mathlib.Core.Path.{_≡_};
 ghost use Prim.Native.Nat.{ℕ, _+_, _*_, _^_, _≤_, _<_};
-ghost use lib.ListN.{length, take, drop};
-ghost use Rattle.book.specs.Records.{number, starts, float, readAngles};
+ghost use lib.ListN.{length, drop};
+ghost use Rattle.book.specs.Records.{float, readAngles};
 ghost use Rattle.fields.specs.Answers.{numberField, pairField, anglesField};
 use book::Angles;
+use heads::number_at;
+use heads::starts_at;
 
 // What a field of one number answers.
 pub enum Field {
@@ -26,38 +28,6 @@ pub enum AnglesField {
 
 // A number has at most so many bytes.
 const WIDEST: usize = 8;
-
-// The number that as many bytes as the width are, the first the highest.
-fn number_at(bytes: &[u8], at: usize, width: usize) -> u64
-    requires { ⌜ (width ≤ 8) × (at + width ≤ length (now bytes)) ⌝ }
-    ensures { λ r. ⌜ (r ≡ number (take width (drop at (now (bytes .entry))))) × (r < 256 ^ width) ⌝ }
-{
-    let mut n: u64 = 0;
-    let mut i: usize = 0;
-    while i < width {
-        let byte = bytes[at + i] as u64;
-        n = n * 256 + byte;
-        i += 1;
-    }
-    n
-}
-
-// Whether a field of this tag and this length stands at the place.
-fn starts_at(bytes: &[u8], at: usize, tag: u8, len: usize) -> bool
-    requires { ⌜ len ≤ 64 ⌝ }
-    ensures { λ r. ⌜ r ≡ starts tag len (drop at (now (bytes .entry))) ⌝ }
-{
-    if bytes.len() < at {
-        return false;
-    }
-    if bytes.len() - at < 3 + len {
-        return false;
-    }
-    if bytes[at] != tag {
-        return false;
-    }
-    number_at(bytes, at + 1, 2) == len as u64
-}
 
 // The field of one number that is listed at the place. A field of more than 8 bytes holds none.
 pub fn number_field(bytes: &[u8], at: usize, tag: u8, width: usize) -> Field

@@ -1,3 +1,2 @@
--- What the program prints.
-pub mod Text
+-- What the program prints beside its deliveries.
 pub mod Lines

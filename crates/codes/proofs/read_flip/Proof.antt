@@ -4,7 +4,7 @@ use lib.ListN.{length}
 use borrow.Author.Needs.{needs}
 use borrow.Author.Tests.{eq-eqb, ne-eqb}
 use Rattle.book.specs.declared.Gate.the-variants.{BitFlip}
-use Rattle.codes.proofs.Answered.{noisy-by}
+use Rattle.masked.proofs.Answered.{noisy-by}
 use Rattle.codes.proofs.read_flip.Statement.{statement}
 use Rattle.codes.proofs.read_flip.Tie as tie
 

@@ -6,7 +6,7 @@ use borrow.Author.Needs.{needs}
 use borrow.Author.Tests.{eq-eqb, ne-eqb}
 use Rattle.book.specs.declared.Gate.the-variants.{Measure}
 use Rattle.wire.specs.Bytes.{Bytes}
-use Rattle.codes.proofs.Answered.{forced-by}
+use Rattle.masked.proofs.Answered.{forced-by}
 use Rattle.codes.proofs.read_measure.Statement.{statement}
 use Rattle.codes.proofs.read_measure.Tie as tie
 

@@ -4,7 +4,7 @@ use lib.ListN.{length}
 use borrow.Author.Needs.{needs}
 use borrow.Author.Tests.{eq-eqb, ne-eqb}
 use Rattle.book.specs.declared.Gate.the-variants.{Swap}
-use Rattle.codes.proofs.Answered.{second-by}
+use Rattle.masked.proofs.Answered.{second-by}
 use Rattle.codes.proofs.read_swap.Statement.{statement}
 use Rattle.codes.proofs.read_swap.Tie as tie
 

@@ -6,7 +6,7 @@ use Rattle.book.specs.Answers.{buffers}
 use Rattle.judging.proofs.Shifts.{shl, shl-is}
 use Rattle.pairs.proofs.Blocks.{place-fits, nearer}
 use Rattle.collapses.proofs.Stretches.{Collapsing, collapse-starts, block-room, lower-half, upper-half, block-done, collapse-ends}
-use Rattle.chances.proofs.Sums.{small}
+use Rattle.probabilities.proofs.Sums.{small}
 use Rattle.collapses.proofs.collapse.Statement.{statement}
 use Rattle.collapses.proofs.collapse.Tie as tie
 

@@ -9,7 +9,7 @@ use mathlib.Core.Option.{some}
 use Rattle.book.specs.Records.{starts, readAngles}
 use Rattle.fields.specs.Answers.{anglesThere}
 use Rattle.fields.specs.declared.AnglesField.the-variants.{Angles as Eight}
-use Rattle.fields.proofs.Places.{here-room, here, gone, float-take}
+use Rattle.heads.proofs.Places.{here-room, here, gone, float-take}
 use borrow.Author.Needs.{needs}
 use Rattle.fields.proofs.angles_field.Statement.{statement}
 use Rattle.fields.proofs.angles_field.Tie as tie

@@ -10,7 +10,7 @@ use borrow.Author.Needs.{needs}
 use borrow.Author.Tests.{le-leb, lt-leb}
 use Rattle.book.specs.Records.{number, starts}
 use Rattle.fields.specs.declared.Field.the-variants.{Number, Missing}
-use Rattle.fields.proofs.Places.{here-room, here, gone}
+use Rattle.heads.proofs.Places.{here-room, here, gone}
 use Rattle.fields.proofs.number_field.Statement.{statement}
 use Rattle.fields.proofs.number_field.Tie as tie
 

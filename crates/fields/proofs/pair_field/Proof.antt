@@ -8,7 +8,7 @@ use mathlib.Core.Option.{some}
 use Rattle.book.specs.Records.{starts}
 use Rattle.fields.specs.Answers.{twoFloats, pairThere}
 use Rattle.fields.specs.declared.PairField.the-variants.{Floats}
-use Rattle.fields.proofs.Places.{here-room, here, gone, float-take}
+use Rattle.heads.proofs.Places.{here-room, here, gone, float-take}
 use borrow.Author.Needs.{needs}
 use Rattle.fields.proofs.pair_field.Statement.{statement}
 use Rattle.fields.proofs.pair_field.Tie as tie

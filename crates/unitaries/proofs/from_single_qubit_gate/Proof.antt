@@ -1,93 +1,53 @@
--- `unitaries::from_single_qubit_gate` meets its contract: its four tests in order, and then the loop. Assumes nothing.
-use mathlib.Core.Bool.{false}
-use mathlib.Core.Path.{_≡_, sym, _∙_}
-use native.Mathlib.Nat.{lt-of-lt-of-le}
+-- `unitaries::from_single_qubit_gate` meets its contract: judged, and then the loop. Assumes nothing.
+use mathlib.Core.List.{_++_}
 use borrow.Author.Needs.{needs}
-use borrow.Author.Tests.{not-true, not-false}
-use Rattle.book.specs.Kernels.{badSize}
-use Rattle.book.specs.Matrices.{mostMatrix}
-use Rattle.matrices.proofs.Judged.{most-is, shift-fits, held-places}
-use Rattle.matrices.proofs.Sides.{side-le, side-some, square-fits}
-use Rattle.unitaries.proofs.Judged.{crossings-size, crossings-long, crossings-qubit, crossings-number, crossings-filled}
+use Rattle.book.specs.Lent.{here}
+use Rattle.book.specs.Matrices.{entries, matrixTests}
+use Rattle.judging.specs.Judging.{Judges}
+use Rattle.unitaries.proofs.Judged.{work, gate-judged, gate-kept, shift-ok, ready, gate-filled}
 use Rattle.unitaries.proofs.from_single_qubit_gate.Statement.{statement}
 use Rattle.unitaries.proofs.from_single_qubit_gate.Tie as tie
 
--- the places behind tests 1, 2 and 3, and the matrix that was lent
-abbrev start : tie.Else1 → tie.Start
-start c = c .before .before .before .before
+-- `told` is the place where the call was taken
 
-abbrev long : tie.Else2 → tie.Else1
-long c = c .before .before .before .before
+abbrev start : tie.After-then → tie.Start
+start c = c .before .before .before .before .before .before .before
 
-abbrev seated : tie.Else3 → tie.Else2
-seated c = c .before
+judged : (c : tie.After-then)
+    → let a = start c .args in
+    Judges (matrixTests (entries (a .n)) (a .n) (here (a .reals) (a .imags)) ++ work (a .matrix) (a .n) (a .target) (here (a .reals) (a .imags)) .tests)
+    (c .then .result)
+judged c = gate-judged (start c .args .matrix) _ _ _ (c .before .before .seat .ensures) (c .before .own .ensures) (c .then .ensures)
 
-sized : (c : tie.Else1) → badSize mostMatrix (start c .args .n) ≡ false
-sized c = sym (c .before .bad-size .ensures) ∙ c .if1 .left
-
-returns : tie.Need-returns
-returns c = crossings-size (c .before .before .before .before .args .matrix) _ _ _ (sym (c .before .bad-size .ensures) ∙ c .if1 .taken)
-
-returns-2 : tie.Need-returns-2
-returns-2 c =
-    let passed = c .before .before .before .before in
-    crossings-long (start passed .args .matrix) _ _ _ (sized passed) (sym (c .before .bad-length .ensures) ∙ c .if2 .taken)
-
-returns-3 : tie.Need-returns-3
-returns-3 c =
-    let lengths = c .before in
-    let passed = long lengths in
-    crossings-qubit (start passed .args .matrix) _ _ _ (sized passed) (sym (lengths .before .bad-length .ensures) ∙ lengths .if2 .left) (c .if3 .taken)
-
-returns-4 : tie.Need-returns-4
-returns-4 c =
-    let qubit = c .before .before in
-    let lengths = seated qubit in
-    let passed = long lengths in
-    crossings-number (start passed .args .matrix) _ _ _ (sized passed) (sym (lengths .before .bad-length .ensures) ∙ lengths .if2 .left) (qubit .if3 .left)
-    (sym (c .before .finite-entries .ensures) ∙ not-true _ (c .if4 .taken))
+shl-fill-crossings : tie.Need-shl-fill-crossings
+shl-fill-crossings c =
+    let told = c .before .before in
+    shift-ok (start (told .before .before) .args .matrix) _ _ _ (judged (told .before .before)) (told .enum-told .given .1)
 
 fill-crossings-requires : tie.Need-fill-crossings-requires
 fill-crossings-requires c κs =
-    let qubit = c .before .before .before .before in
-    let lengths = seated qubit in
-    let most = most-is _ (sized (long lengths)) in (
-      lt-of-lt-of-le (qubit .if3 .left) most,
-      side-some _ most,
-      side-le _ most,
-      held-places _ _ (sym (lengths .before .bad-length .ensures) ∙ lengths .if2 .left),
-    )
+    let told = c .before .before in
+    ready (start (told .before .before) .args .matrix) _ _ _ (judged (told .before .before)) (told .enum-told .given .1)
 
-returns-5 : tie.Need-returns-5
-returns-5 c =
+returns : tie.Need-returns
+returns c =
     let filled = c .before .before .before .before in
-    let finite = filled .before .before .before in
-    let qubit = finite .before .before in
-    let lengths = seated qubit in
-    let passed = long lengths in
-    crossings-filled (start passed .args .matrix) _ _ _ (sized passed) _ (sym (lengths .before .bad-length .ensures) ∙ lengths .if2 .left) (qubit .if3 .left)
-    (sym (finite .before .finite-entries .ensures) ∙ not-false _ (finite .if4 .left)) (filled .fill-crossings .ensures)
+    let told = filled .before .before .before in
+    gate-filled (start (told .before .before) .args .matrix) _ _ _ (judged (told .before .before)) (told .enum-told .given .1) (filled .fill-crossings .ensures)
 
 pub from-single-qubit-gate-spec : {M : Type 1} → statement M
 from-single-qubit-gate-spec =
     tie.close
     (tie.spec
     (λ c κs. search needs)
-    returns
-    (λ c. shift-fits _ (sized c))
-    (λ c. record { fits = square-fits _ (side-le _ (most-is _ (sized (c .before .before)))) })
+    (λ c κs. search needs)
     (λ c κs. search needs)
     (λ c. search needs)
-    (λ c. search needs)
-    returns-2
-    (λ c. search needs)
-    (λ c. search needs)
-    returns-3
-    (λ c κs. search needs)
-    (λ c. search needs)
-    (λ c. search needs)
-    returns-4
+    shl-fill-crossings
     fill-crossings-requires
     (λ c. search needs)
     (λ c. search needs)
-    returns-5)
+    returns
+    (λ c. search needs)
+    (λ c. search needs)
+    (λ c. gate-kept (start (c .before) .args .matrix) _ _ _ (judged (c .before)) (c .match .keys2)))

@@ -9,8 +9,8 @@ size-spec =
     tie.close
     (tie.spec
     (λ c κs. search needs)
-    (λ c. search sizes)
+    (λ c. search sizes depth 1)
     (λ c. search shift-fits)
     (λ c κs. search needs)
-    (λ c. search sizes)
-    (λ c. search sizes))
+    (λ c. search sizes depth 1)
+    (λ c. search sizes depth 1))

@@ -1,0 +1,2 @@
+-- Crossings: the entries of a gate's matrix.
+mod Crossings

@@ -1,0 +1,2 @@
+-- What the program prints of a delivery.
+pub mod Deliveries

@@ -1,0 +1,54 @@
+// The line that the program prints of a delivery, at the start of a buffer of the caller's.
+use answers::number_of;
+use book::Reply;
+use words::add;
+use words::add_number;
+ghost use Prim.Native.Nat.{_+_, _≤_};
+ghost use lib.ListN.{length};
+ghost use Rattle.book.specs.Answers.{replies};
+ghost use Rattle.delivery_lines.specs.Deliveries.{saying, adding, deliveryLine};
+ghost use Rattle.words.specs.Words.{Added, Line};
+
+// What a delivery says, in front of the count.
+fn add_saying(out: &mut [u8], at: usize, reply: Reply) -> usize
+    requires { ⌜ at + 29 ≤ length (now out) ⌝ }
+    ensures { λ r. ⌜ Added (saying (replies reply)) 29 (now (out .entry)) at r (now (out .exit)) ⌝ }
+{
+    match reply {
+        Reply::Taken => add(out, at, b" TAKEN"),
+        Reply::Value(_) => add(out, at, b" TAKEN"),
+        Reply::Again => add(out, at, b" AGAIN"),
+        Reply::Refused(refusal) => {
+            let behind = add(out, at, b" REFUSED ");
+            add_number(out, behind, number_of(refusal) as u64)
+        }
+    }
+}
+
+// A taken measurement or flip adds its value.
+fn add_value(out: &mut [u8], at: usize, reply: Reply) -> usize
+    requires { ⌜ at + 27 ≤ length (now out) ⌝ }
+    ensures { λ r. ⌜ Added (adding (replies reply)) 27 (now (out .entry)) at r (now (out .exit)) ⌝ }
+{
+    match reply {
+        Reply::Taken => at,
+        Reply::Value(v) => {
+            let behind = add(out, at, b" VALUE ");
+            add_number(out, behind, v as u64)
+        }
+        Reply::Again => at,
+        Reply::Refused(_) => at,
+    }
+}
+
+pub fn delivery_line(out: &mut [u8; 128], index: u64, reply: Reply, count: u16) -> usize
+    ensures { λ r. ⌜ Line (deliveryLine index (replies reply) count) (now (out .entry)) r (now (out .exit)) ⌝ }
+{
+    let behind_d = add(out, 0, b"D ");
+    let behind_index = add_number(out, behind_d, index);
+    let behind_reply = add_saying(out, behind_index, reply);
+    let behind_word = add(out, behind_reply, b" COUNT ");
+    let behind_count = add_number(out, behind_word, count as u64);
+    let behind_value = add_value(out, behind_count, reply);
+    add(out, behind_value, b"\n")
+}

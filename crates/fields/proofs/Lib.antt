@@ -1,2 +1,0 @@
--- What the field readers' proofs share.
-mod Places

@@ -1,0 +1,2 @@
+-- What the field readers' proofs share.
+pub mod Places

@@ -1,0 +1,2 @@
+-- Mirrors: a matrix turned place by place.
+pub mod Mirrors

@@ -1,0 +1,2 @@
+-- Writing: words one behind the other, and a line of them.
+pub mod Writing

@@ -1,0 +1,3 @@
+-- Words and where they stand.
+pub mod Text
+pub mod Words

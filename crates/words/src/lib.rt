@@ -1,0 +1,36 @@
+// Words put behind a place of a buffer. Each answers the place behind them.
+// An inner room: its callers, the lines of the program, are proved to have the room that is asked.
+ghost use Prim.Native.Nat.{_+_, _≤_};
+ghost use lib.ListN.{length};
+ghost use Rattle.words.specs.Words.{decimal, bits, Added};
+
+pub fn add(out: &mut [u8], at: usize, words: &[u8]) -> usize
+    requires { ⌜ at + length (now words) ≤ length (now out) ⌝ }
+    ensures { λ r. ⌜ Added (now (words .entry)) (length (now (words .entry))) (now (out .entry)) at r (now (out .exit)) ⌝ }
+{
+    let mut i: usize = 0;
+    while i < words.len() {
+        let byte = words[i];
+        out[at + i] = byte;
+        i += 1;
+    }
+    at + words.len()
+}
+
+pub fn add_number(out: &mut [u8], at: usize, n: u64) -> usize
+    requires { ⌜ at + 20 ≤ length (now out) ⌝ }
+    ensures { λ r. ⌜ Added (decimal n) 20 (now (out .entry)) at r (now (out .exit)) ⌝ }
+{
+    let mut digits = [0u8; 20];
+    let k = io::decimal(n, &mut digits);
+    add(out, at, &digits[..k])
+}
+
+pub fn add_bits(out: &mut [u8], at: usize, x: f64) -> usize
+    requires { ⌜ at + 16 ≤ length (now out) ⌝ }
+    ensures { λ r. ⌜ Added (bits x) 16 (now (out .entry)) at r (now (out .exit)) ⌝ }
+{
+    let mut digits = [0u8; 16];
+    let k = io::hex(wire::bits_of(x), 16, &mut digits);
+    add(out, at, &digits[..k])
+}
