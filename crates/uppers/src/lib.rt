@@ -2,9 +2,6 @@
 use book::Angle;
 use book::Answer;
 use book::Controls;
-use fed::Fed;
-use fed::Upper;
-use fed::feed_upper;
 use halves::turn_half;
 ghost use mathlib.Core.Path.{_≡_};
 ghost use Rattle.book.specs.Answers.{Does};
@@ -70,13 +67,11 @@ fn by_target(
 
 // The chosen places are those that have all ones of the controls: these are fixed, and nothing is taken back.
 // Without controls Z has a loop for each of the lowest targets.
-fn turn(reals: &mut [f64], imags: &mut [f64], n: u32, target: u32, controls: Controls, fed: Fed)
+fn turn(reals: &mut [f64], imags: &mut [f64], n: u32, target: u32, controls: Controls, number: u32, angle: Angle)
     requires { ⌜ Seated n target controls (here reals imags) ⌝ }
     ensures { λ _. ⌜ after reals imags ≡ onPairs (loopUpper (fed .number) (fed .angle)) n target controls (before reals imags) ⌝ }
 {
     let fixed = controls.ones as usize;
-    let number = fed.number;
-    let angle = fed.angle;
     if fixed == 0 {
         if number == 0 {
             by_target(reals, imags, n, target, fixed, 0, number, angle);
@@ -93,15 +88,19 @@ pub fn on_uppers(
     n: u32,
     target: u32,
     controls: Controls,
-    upper: Upper,
+    upper: u32,
+    angle: Angle,
 ) -> Answer
     ensures { λ r. ⌜ Does (upperGate upper n target controls (before reals imags)) r (after reals imags) ⌝ }
 {
     let seat = judging::seat(reals, imags, n, target, controls, fed::most_of_upper(upper));
-    let answer = judging::then(seat, fed::own_of_upper(upper));
+    let answer = judging::then(seat, fed::own_of_upper(upper, angle));
     if let Answer::Taken = answer {
-        let fed = feed_upper(upper);
-        turn(reals, imags, n, target, controls, fed);
+        match upper {
+            0 => turn(reals, imags, n, target, controls, upper, angle),
+            _ => turn(reals, imags, n, target, controls, upper, angle),
+        }
+        return Answer::Taken;
     }
     answer
 }
