@@ -4,8 +4,8 @@ use book::Angles;
 use book::Answer;
 use book::Controls;
 use book::Noise;
-use fed::no_angle;
-use fed::no_angles;
+use fed::NO_ANGLE;
+use fed::NO_ANGLES;
 use sweeps::flip_bit;
 use sweeps::on_pairs;
 use sweeps::swap_bits;
@@ -25,7 +25,7 @@ pub fn x_apply(
 ) -> Answer
     ensures { λ r. ⌜ Does (act n (Gate.X target controls) (before reals imags)) r (after reals imags) ⌝ }
 {
-    on_pairs(reals, imags, n, target, controls, fed::X, no_angle(), no_angles())
+    on_pairs(reals, imags, n, target, controls, fed::X, NO_ANGLE, NO_ANGLES)
 }
 
 // Up to one control.
@@ -38,7 +38,7 @@ pub fn y_apply(
 ) -> Answer
     ensures { λ r. ⌜ Does (act n (Gate.Y target controls) (before reals imags)) r (after reals imags) ⌝ }
 {
-    on_pairs(reals, imags, n, target, controls, fed::Y, no_angle(), no_angles())
+    on_pairs(reals, imags, n, target, controls, fed::Y, NO_ANGLE, NO_ANGLES)
 }
 
 // No controls.
@@ -51,7 +51,7 @@ pub fn z_apply(
 ) -> Answer
     ensures { λ r. ⌜ Does (act n (Gate.Z target controls) (before reals imags)) r (after reals imags) ⌝ }
 {
-    on_uppers(reals, imags, n, target, controls, fed::Z, no_angle())
+    on_uppers(reals, imags, n, target, controls, fed::Z, NO_ANGLE)
 }
 
 // Up to one control.
@@ -64,7 +64,7 @@ pub fn h_apply(
 ) -> Answer
     ensures { λ r. ⌜ Does (act n (Gate.H target controls) (before reals imags)) r (after reals imags) ⌝ }
 {
-    on_pairs(reals, imags, n, target, controls, fed::H, no_angle(), no_angles())
+    on_pairs(reals, imags, n, target, controls, fed::H, NO_ANGLE, NO_ANGLES)
 }
 
 // Any number of controls.
@@ -92,7 +92,7 @@ pub fn rx_apply(
 ) -> Answer
     ensures { λ r. ⌜ Does (act n (Gate.Rx target controls angle) (before reals imags)) r (after reals imags) ⌝ }
 {
-    on_pairs(reals, imags, n, target, controls, fed::RX, angle, no_angles())
+    on_pairs(reals, imags, n, target, controls, fed::RX, angle, NO_ANGLES)
 }
 
 // Any number of controls.
@@ -106,7 +106,7 @@ pub fn ry_apply(
 ) -> Answer
     ensures { λ r. ⌜ Does (act n (Gate.Ry target controls angle) (before reals imags)) r (after reals imags) ⌝ }
 {
-    on_pairs(reals, imags, n, target, controls, fed::RY, angle, no_angles())
+    on_pairs(reals, imags, n, target, controls, fed::RY, angle, NO_ANGLES)
 }
 
 // Up to one control.
@@ -120,7 +120,7 @@ pub fn rz_apply(
 ) -> Answer
     ensures { λ r. ⌜ Does (act n (Gate.Rz target controls angle) (before reals imags)) r (after reals imags) ⌝ }
 {
-    on_pairs(reals, imags, n, target, controls, fed::RZ, angle, no_angles())
+    on_pairs(reals, imags, n, target, controls, fed::RZ, angle, NO_ANGLES)
 }
 
 // The eight numbers make the matrix once. Up to one control.
@@ -134,7 +134,7 @@ pub fn u_apply(
 ) -> Answer
     ensures { λ r. ⌜ Does (act n (Gate.U target controls angles) (before reals imags)) r (after reals imags) ⌝ }
 {
-    on_pairs(reals, imags, n, target, controls, fed::U, no_angle(), angles)
+    on_pairs(reals, imags, n, target, controls, fed::U, NO_ANGLE, angles)
 }
 
 // Amplitudes exchanged whose indices differ by exchanging the bits t0 and t1; a qubit with itself changes nothing.

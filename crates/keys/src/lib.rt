@@ -1,23 +1,20 @@
-// The chosen pairs one by one, key by key: for the gates whose rule needs F, and where one pair is all.
+// The chosen pairs one by one, key by key: for the gates whose rule needs F.
 // An inner room: its function asks for keys whose pairs lie apart, and its callers are proved.
-use book::Angle;
-use book::Angles;
-use book::Matrix;
+use fed::Fed;
 use fed::put;
 use pairs::read_pair;
 use pairs::write_pair;
-use rules::u_matrix;
 ghost use Rattle.book.specs.Lent.{before, after, here, SameSize};
 ghost use Rattle.book.specs.State.{at};
-ghost use Rattle.fed.specs.Named.{ruleOf, putOf};
+ghost use Rattle.fed.specs.Named.{putOf};
 ghost use Rattle.pairs.specs.Pairs.{TwoPlaces, PairPut, Keyed, Swept};
 
-fn step(reals: &mut [f64], imags: &mut [f64], s0: usize, s1: usize, rule: u32, angle: Angle, matrix: Matrix)
+fn step(reals: &mut [f64], imags: &mut [f64], s0: usize, s1: usize, fed: Fed)
     requires { ⌜ TwoPlaces (here reals imags) s0 s1 ⌝ }
-    ensures { λ _. ⌜ PairPut (putOf fed matrix) s0 s1 (at (before reals imags)) (at (after reals imags)) × SameSize (before reals imags) (after reals imags) ⌝ }
+    ensures { λ _. ⌜ PairPut (putOf fed) s0 s1 (at (before reals imags)) (at (after reals imags)) × SameSize (before reals imags) (after reals imags) ⌝ }
 {
     let p = read_pair(reals, imags, s0, s1);
-    let q = put(rule, angle, matrix, p);
+    let q = put(fed, p);
     write_pair(reals, imags, s0, s1, q);
 }
 
@@ -29,18 +26,15 @@ pub fn by_keys(
     fixed: usize,
     back0: usize,
     back1: usize,
-    rule: u32,
-    angle: Angle,
-    angles: Angles,
+    fed: Fed,
 )
     requires { ⌜ Keyed n fixed back0 back1 (here reals imags) ⌝ }
-    ensures { λ _. ⌜ Swept (ruleOf rule) n fixed back0 back1 (before reals imags) (after reals imags) ⌝ }
+    ensures { λ _. ⌜ Swept (putOf fed) n fixed back0 back1 (before reals imags) (after reals imags) ⌝ }
 {
-    let matrix = u_matrix(angles);
     let size: usize = 1 << n;
     let mut w = fixed;
     while w < size {
-        step(reals, imags, w - back0, w - back1, rule, angle, matrix);
+        step(reals, imags, w - back0, w - back1, fed);
         w = (w + 1) | fixed;
     }
 }

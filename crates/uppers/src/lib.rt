@@ -100,7 +100,6 @@ pub fn on_uppers(
             0 => turn(reals, imags, n, target, controls, upper, angle),
             _ => turn(reals, imags, n, target, controls, upper, angle),
         }
-        return Answer::Taken;
     }
     answer
 }

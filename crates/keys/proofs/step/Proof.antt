@@ -10,7 +10,7 @@ returns c =
     let wrote = c .before .before .before .before .write-pair .ensures in
     let put = c .before .before .before .before .before .before .before in
     let args = put .before .before .before .before .before .before .args in
-    (stepped (putOf (args .fed) (args .matrix)) (put .before .read-pair .ensures) (put .put .ensures) (wrote .0), wrote .1)
+    (stepped (putOf (args .fed)) (put .before .read-pair .ensures) (put .put .ensures) (wrote .0), wrote .1)
 
 pub step-spec : {M : Type 1} → statement M
 step-spec =
