@@ -25,7 +25,16 @@ pub fn x_apply(
 ) -> Answer
     ensures { λ r. ⌜ Does (act n (Gate.X target controls) (before reals imags)) r (after reals imags) ⌝ }
 {
-    on_pairs(reals, imags, n, target, controls, fed::X, NO_ANGLE, NO_ANGLES)
+    on_pairs(
+        reals,
+        imags,
+        n,
+        target,
+        controls,
+        fed::X,
+        NO_ANGLE,
+        NO_ANGLES,
+    )
 }
 
 // Up to one control.
@@ -38,7 +47,16 @@ pub fn y_apply(
 ) -> Answer
     ensures { λ r. ⌜ Does (act n (Gate.Y target controls) (before reals imags)) r (after reals imags) ⌝ }
 {
-    on_pairs(reals, imags, n, target, controls, fed::Y, NO_ANGLE, NO_ANGLES)
+    on_pairs(
+        reals,
+        imags,
+        n,
+        target,
+        controls,
+        fed::Y,
+        NO_ANGLE,
+        NO_ANGLES,
+    )
 }
 
 // No controls.
@@ -64,7 +82,16 @@ pub fn h_apply(
 ) -> Answer
     ensures { λ r. ⌜ Does (act n (Gate.H target controls) (before reals imags)) r (after reals imags) ⌝ }
 {
-    on_pairs(reals, imags, n, target, controls, fed::H, NO_ANGLE, NO_ANGLES)
+    on_pairs(
+        reals,
+        imags,
+        n,
+        target,
+        controls,
+        fed::H,
+        NO_ANGLE,
+        NO_ANGLES,
+    )
 }
 
 // Any number of controls.

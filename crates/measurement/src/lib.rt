@@ -27,7 +27,16 @@ fn set_back(reals: &mut [f64], imags: &mut [f64], n: u32, target: u32, forced: F
 {
     if forced.outcome == 1 {
         if forced.reset == 1 {
-            on_pairs(reals, imags, n, target, Controls::of(0), X, NO_ANGLE, NO_ANGLES);
+            on_pairs(
+                reals,
+                imags,
+                n,
+                target,
+                Controls::of(0),
+                X,
+                NO_ANGLE,
+                NO_ANGLES,
+            );
         }
     }
 }

@@ -67,7 +67,15 @@ fn by_target(
 
 // The chosen places are those that have all ones of the controls: these are fixed, and nothing is taken back.
 // Without controls Z has a loop for each of the lowest targets.
-fn turn(reals: &mut [f64], imags: &mut [f64], n: u32, target: u32, controls: Controls, number: u32, angle: Angle)
+fn turn(
+    reals: &mut [f64],
+    imags: &mut [f64],
+    n: u32,
+    target: u32,
+    controls: Controls,
+    number: u32,
+    angle: Angle,
+)
     requires { ⌜ Seated n target controls (here reals imags) ⌝ }
     ensures { λ _. ⌜ after reals imags ≡ onPairs (loopUpper (fed .number) (fed .angle)) n target controls (before reals imags) ⌝ }
 {
