@@ -14,9 +14,10 @@ returns c =
     let put = wrote .before .before .before in
     let all = put .before .before .before .before in
     let s = all .before .before .before in
-    single-swept (s .pre) (omega (arith, all .if1 .taken, size-is (s .pre)))
-    (stepped (quickOf (s .args .rule) (s .args .angle)) (put .before .read-pair .ensures) (put .put-quick .ensures) (wrote .write-pair .ensures .0),
-    wrote .write-pair .ensures .1)
+    single-swept (s .pre) (omega (arith, all .if1 .taken, size-is (s .pre))) (
+      stepped (quickOf (s .args .rule) (s .args .angle)) (put .before .read-pair .ensures) (put .put-quick .ensures) (wrote .write-pair .ensures .0),
+      wrote .write-pair .ensures .1,
+    )
 
 pub sweep-spec : {M : Type 1} → statement M
 sweep-spec =
