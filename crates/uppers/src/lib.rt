@@ -90,26 +90,8 @@ fn turn(
     turn_blocks(reals, imags, n, target, fixed, 0, upper, angle);
 }
 
-// The arms are one call: so the compiler sets the judging below into Z and P, and to each only what turns it.
-fn by_upper(
-    reals: &mut [f64],
-    imags: &mut [f64],
-    n: u32,
-    target: u32,
-    controls: Controls,
-    upper: u32,
-    angle: Angle,
-)
-    requires { ⌜ Seated n target controls (here reals imags) ⌝ }
-    ensures { λ _. ⌜ after reals imags ≡ onPairs (upperRule upper angle) n target controls (before reals imags) ⌝ }
-{
-    match upper {
-        0 => turn(reals, imags, n, target, controls, upper, angle),
-        _ => turn(reals, imags, n, target, controls, upper, angle),
-    }
-}
-
 // A gate that leaves s0 as it is, from its number and what it is fed: judged once, then turned block by block.
+// The arms are one call here too: so the judging is small enough for the compiler to set it into Z and into P.
 pub fn on_uppers(
     reals: &mut [f64],
     imags: &mut [f64],
@@ -124,7 +106,10 @@ pub fn on_uppers(
     let seat = judging::seat(reals, imags, n, target, controls, fed::most_of_upper(upper));
     let answer = judging::then(seat, fed::own_of_upper(upper, angle));
     if let Answer::Taken = answer {
-        by_upper(reals, imags, n, target, controls, upper, angle);
+        match upper {
+            0 => turn(reals, imags, n, target, controls, upper, angle),
+            _ => turn(reals, imags, n, target, controls, upper, angle),
+        }
     }
     answer
 }
