@@ -12,15 +12,19 @@ use Rattle.book.specs.declared.Answer.the-variants.{Taken}
 use Rattle.book.specs.declared.Matrix.{Matrix}
 use Rattle.book.specs.declared.Pair.{Pair}
 use Rattle.judging.specs.Judging.{Judges}
-use Rattle.fed.specs.Named.{ruleOf, fusedOf, upperRule, upperOf}
+use Rattle.fed.specs.Named.{ruleOf, fusedOf, putOf, upperRule, upperOf}
+use Rattle.fed.specs.declared.Fed.{Fed}
 use Rattle.rules.specs.Rules.{quickOf}
 
 pub quick-rule : (k : ℕ) (angle : Angle) (angles : Angles) → k ≤ 4 → ruleOf k angle angles ≡ quickOf k angle
 quick-rule k angle angles l = rw (le-leb k 4 l)
 
--- U's matrix was made before
-pub fused-rule : (k : ℕ) (angle : Angle) (angles : Angles) {m : Matrix} → 4 < k → m ≡ uMatrix angles → ruleOf k angle angles ≡ fusedOf k angle m
-fused-rule k angle angles l e = rw (lt-leb k 4 l, e)
+pub fused-rule : (k : ℕ) (angle : Angle) (angles : Angles) → 4 < k → ruleOf k angle angles ≡ fusedOf k angle (uMatrix angles)
+fused-rule k angle angles l = rw (lt-leb k 4 l)
+
+-- U's matrix is made before the loop
+pub made-once : (f : Fed) {m : Matrix} → m ≡ uMatrix (f .angles) → putOf f ≡ fusedOf (f .number) (f .angle) m
+made-once f e = rw e
 
 -- each number but 0 is one more than another, and names P
 pub rest : (k : ℕ) → (k ≡ 0 → ⊥) → (j : ℕ) × (k ≡ suc j)

@@ -40,7 +40,7 @@ pairGate k angle angles n t c b = outcomeOf (sizeTests n b) b (pairCall (ruleOf 
 
 -- what the loop over keys puts to a pair
 abbrev pub putOf : Fed → Pair → Pair
-putOf f = fusedOf (f .number) (f .angle) (f .matrix)
+putOf f = fusedOf (f .number) (f .angle) (uMatrix (f .angles))
 
 -- ---- the gates that leave s0 as it is: Z is 0, and P any other number
 

@@ -14,7 +14,7 @@ use rules::z_upper;
 ghost use mathlib.Core.Path.{_≡_};
 ghost use Rattle.book.specs.Gates.{angleOf, finiteTests};
 ghost use Rattle.judging.specs.Judging.{Judges};
-ghost use Rattle.fed.specs.Named.{mostOf, ownOf, putOf, upperMost, upperOwn, upperOf};
+ghost use Rattle.fed.specs.Named.{mostOf, ownOf, fusedOf, upperMost, upperOwn, upperOf};
 
 // The gates that change both places of a pair: those that need no F first.
 pub const X: u32 = 0;
@@ -108,21 +108,21 @@ pub fn own_of_upper(upper: u32, angle: Angle) -> Answer
     }
 }
 
-// What the loop over keys is fed: RZ's number with its angle, or U's with its matrix, made once.
+// What the loop over keys is fed: RZ's number with its angle, or U's with its eight.
 pub struct Fed {
     pub number: u32,
     pub angle: Angle,
-    pub matrix: Matrix,
+    pub angles: Angles,
 }
 
-// The rule put to a pair.
-pub fn put(fed: Fed, p: Pair) -> Pair
-    ensures { λ r. ⌜ r ≡ putOf fed p ⌝ }
+// The rule put to a pair; U's matrix was made before.
+pub fn put(number: u32, angle: Angle, matrix: Matrix, p: Pair) -> Pair
+    ensures { λ r. ⌜ r ≡ fusedOf number angle matrix p ⌝ }
 {
-    if fed.number == RZ {
-        return rz_rule(fed.angle, p);
+    if number == RZ {
+        return rz_rule(angle, p);
     }
-    u_rule(fed.matrix, p)
+    u_rule(matrix, p)
 }
 
 // What the gate makes of s1, by number: a call with a literal leaves one rule to compile.

@@ -13,7 +13,6 @@ use keys::by_keys;
 use pairs::read_pair;
 use pairs::write_pair;
 use rules::put_quick;
-use rules::u_matrix;
 ghost use Prim.Native.Nat.{_≤_};
 ghost use Rattle.book.specs.Answers.{Does};
 ghost use Rattle.book.specs.Calls.{act};
@@ -71,11 +70,10 @@ pub fn on_pairs(
             sweep(reals, imags, n, fixed, bit, 0, rule, angle);
             return answer;
         }
-        let matrix = u_matrix(angles);
         let fed = Fed {
             number: rule,
             angle,
-            matrix,
+            angles,
         };
         by_keys(reals, imags, n, fixed, bit, 0, fed);
     }

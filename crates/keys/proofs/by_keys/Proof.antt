@@ -1,29 +1,31 @@
--- `keys::by_keys` meets its contract, by the law of the loop over the keys. Assumes nothing.
+-- `keys::by_keys` meets its contract, by the law of the loop over the keys; the matrix that was made is U's. Assumes nothing.
 use Prim.Native.Nat.{_+_, _-_, _^_, _<_}
 use native.Mathlib.Omega.{arith}
+use borrow.Author.Needs.{needs}
 use Rattle.book.specs.Answers.{buffers}
-use Rattle.fed.specs.Named.{putOf}
+use Rattle.fed.proofs.Numbers.{made-once}
+use Rattle.fed.specs.Named.{fusedOf}
 use Rattle.pairs.proofs.Bits.{or-ge}
 use Rattle.pairs.proofs.Keys.{Upto, size-is, small, starts, reach, asked, steps, ends}
 use Rattle.keys.proofs.by_keys.Statement.{statement}
 use Rattle.keys.proofs.by_keys.Tie as tie
 
 abbrev Inv-loop : tie.InvT-loop
-Inv-loop reals₀ imags₀ n fixed back0 back1 fed size w₀ reals imags w =
-    Upto (putOf fed) n fixed back0 back1 (buffers reals₀ imags₀) w (buffers reals imags)
+Inv-loop reals₀ imags₀ n fixed back0 back1 number angle matrix size w₀ reals imags w =
+    Upto (fusedOf number angle matrix) n fixed back0 back1 (buffers reals₀ imags₀) w (buffers reals imags)
 
 abbrev μ-loop : tie.MeasureT-loop
-μ-loop reals₀ imags₀ n fixed back0 back1 fed size w₀ reals imags w = size - w
+μ-loop reals₀ imags₀ n fixed back0 back1 number angle matrix size w₀ reals imags w = size - w
 
 -- a turn: the key is below 2 ^ n, which is small
 abbrev start : tie.In-loop Inv-loop μ-loop → tie.Start Inv-loop μ-loop
-start c = c .before .before .before .before
+start c = c .before .before .before .before .before .before
 
 key-lt : (c : tie.In-loop Inv-loop μ-loop) → c .before .loop .w < 2 ^ (start c .args .n)
 key-lt c = omega (arith, c .loop-test .taken, size-is (start c .pre))
 
 shl-size : tie.Need-shl-size Inv-loop μ-loop
-shl-size c = omega (arith, c .before .before .pre .fits)
+shl-size c = omega (arith, c .before .before .before .before .pre .fits)
 
 sub-step : tie.Need-sub-step Inv-loop μ-loop
 sub-step c = reach (start (c .before .before) .pre) (c .before .before .before .loop .inv)
@@ -48,7 +50,11 @@ loop-again c =
     steps (start turn .pre) (turn .before .loop .inv) (key-lt turn) (c .before .before .before .before .step .ensures)
 
 returns : tie.Need-returns Inv-loop μ-loop
-returns c = let ok = c .before .before .before .before .pre in ends ok (c .before .loop .inv) (omega (arith, c .loop-test .left, size-is ok))
+returns c =
+    let made = c .before .before in
+    let s = made .before .before .before .before in
+    let ok = s .pre in
+    rw (made-once (s .args .fed) (made .u-matrix .ensures)) (ends ok (c .before .loop .inv) (omega (arith, c .loop-test .left, size-is ok)))
 
 pub by-keys-spec : {M : Type 1} → statement M
 by-keys-spec =
@@ -56,8 +62,9 @@ by-keys-spec =
     (tie.spec
     Inv-loop
     μ-loop
+    (λ c κs. search needs)
     shl-size
-    (λ c. starts (c .before .before .pre))
+    (λ c. starts (c .before .before .before .before .pre))
     sub-step
     sub-step-2
     step-requires

@@ -27,10 +27,10 @@ returns c =
 returns-2 : tie.Need-returns-2
 returns-2 c =
     let swept = c .before .before .before .before in
-    let made = swept .before .before .before in
-    let told = made .before .before .before in
+    let fused = swept .before .before .before in
+    let told = fused .before .before in
     G.gate-swept (judged (told .before .before)) (told .enum-told .given .1)
-    (rw (fused-rule _ _ _ (made .before .if1 .left) (made .u-matrix .ensures)) (swept .by-keys .ensures))
+    (rw (fused-rule _ _ _ (fused .if1 .left)) (swept .by-keys .ensures))
 
 pub on-pairs-spec : {M : Type 1} → statement M
 on-pairs-spec =
@@ -48,8 +48,7 @@ on-pairs-spec =
     (λ c. search needs)
     (λ c. search needs)
     returns
-    (λ c κs. search needs)
-    (λ c κs. let told = c .before .before .before .before .before in G.gate-asks (judged (told .before .before)) (told .enum-told .given .1))
+    (λ c κs. let told = c .before .before .before .before in G.gate-asks (judged (told .before .before)) (told .enum-told .given .1))
     (λ c. search needs)
     (λ c. search needs)
     returns-2
