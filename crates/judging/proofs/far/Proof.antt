@@ -7,10 +7,12 @@ use Rattle.judging.proofs.far.Statement.{statement}
 use Rattle.judging.proofs.far.Tie as tie
 
 returns : tie.Need-returns
-returns c = rw (le-leb _ _ (c .if1 .taken))
+returns c = rw (le-leb (c .before .args .n) (c .before .args .target) (search needs))
 
 returns-2 : tie.Need-returns-2
-returns-2 c = rw (lt-leb _ _ (c .if1 .left), shl-one 32 _ (mod-lt (c .before .args .n) (zero-lt-suc 31)))
+returns-2 c =
+    let a = c .before .args in
+    rw (lt-leb (a .n) (a .target) (search needs), shl-one 32 _ (mod-lt (a .n) (zero-lt-suc 31)))
 
 pub far-spec : {M : Type 1} → statement M
 far-spec = tie.close (tie.spec (λ c. search needs) returns returns-2)
