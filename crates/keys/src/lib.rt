@@ -22,7 +22,8 @@ fn step(
     matrix: Matrix,
 )
     requires { ⌜ TwoPlaces (here reals imags) s0 s1 ⌝ }
-    ensures { λ _. ⌜ PairPut (fusedOf number angle matrix) s0 s1 (at (before reals imags)) (at (after reals imags)) × SameSize (before reals imags) (after reals imags) ⌝ }
+    ensures { λ _. ⌜ PairPut (fusedOf number angle matrix) s0 s1 (at (before reals imags)) (at (after reals imags))
+        × SameSize (before reals imags) (after reals imags) ⌝ }
 {
     let p = read_pair(reals, imags, s0, s1);
     let q = put(number, angle, matrix, p);
