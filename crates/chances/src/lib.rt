@@ -1,4 +1,4 @@
-// What a measurement asks before it touches a buffer: whether outcome and reset are 0 or 1, the outcome's probability, which is passed on, and 1 over its root.
+// What a measurement asks before it touches a buffer: tests 6 and 7, the outcome's probability, which is passed on, and 1 over its root.
 use book::Answer;
 use book::Forced;
 use book::Refusal;
