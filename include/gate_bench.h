@@ -11,14 +11,17 @@
  * A state of n qubits is two buffers of 2^n doubles, real and imaginary parts; a matrix two of 4^n, row by row.
  * A slice is passed as a pointer and a length in elements. What the caller answers for: the pointer is not NULL and is
  * aligned, that many elements are there, nothing that a call writes overlaps another of its buffers, and no other thread
- * touches them meanwhile. Everything else is proved (crates/c_api): each call's number and every place that it writes, up to
- * a NaN's payload, which nothing fixes.
+ * touches them meanwhile. And the thread that calls has the processor's floating-point settings as a program starts with
+ * them: rounding to nearest, subnormals kept. A program linked with -ffast-math, or one that called fesetround, may have
+ * others, and then results differ: gate_bench_environment_is_default() tells. Everything else is proved (crates/c_api): each
+ * call's number and every place that it writes, up to a NaN's payload, which no proof fixes.
  * Link with the archive alone; it calls nothing but itself. It is x86-64 code. */
 #ifndef GATE_BENCH_H
 #define GATE_BENCH_H
 
 #include <stddef.h>
 #include <stdint.h>
+#include <string.h>
 
 #ifdef __cplusplus
 extern "C" {
@@ -137,10 +140,38 @@ uint32_t gate_bench_write_record(const uint32_t *fields, size_t fields_len, cons
 
 /* ---- numbers */
 
-/* F: x*y + z, rounded once. */
+/* F: x*y + z, rounded once. Where it is a NaN, it is 7FF8000000000000; so is the root's. */
 double gate_bench_fused(double x, double y, double z);
 /* The square root, rounded once. */
 double gate_bench_root(double x);
+
+/* ---- what the processor is set to, for the thread that calls */
+
+static inline double gate_bench_double_of(uint64_t bits) {
+    double x;
+    memcpy(&x, &bits, sizeof x);
+    return x;
+}
+
+static inline int gate_bench_has_bits(double x, uint64_t bits) { return memcmp(&x, &bits, sizeof x) == 0; }
+
+/* 1 where sums are rounded to nearest and subnormals are kept, as operands and as results: what every promise here rests on.
+ * Else 0. The operands are volatile, so that it is the processor that answers, whatever the compiler was told it may assume. */
+static inline int gate_bench_environment_is_default(void) {
+    volatile double one = 1.0;
+    volatile double quarter = gate_bench_double_of(0x3C90000000000000u);       /* 2^-54, a quarter of 1's last place */
+    volatile double three_quarters = gate_bench_double_of(0x3CA8000000000000u);
+    volatile double least_normal = gate_bench_double_of(0x0010000000000000u);  /* 2^-1022 */
+    volatile double least = gate_bench_double_of(1u);                          /* 2^-1074 */
+    volatile double half = 0.5;
+    volatile double greatest_power = gate_bench_double_of(0x7FE0000000000000u); /* 2^1023 */
+    volatile double rounded_down = one + quarter;
+    volatile double rounded_up = one + three_quarters;
+    volatile double result = least_normal * half;
+    volatile double operand = least * greatest_power;
+    return gate_bench_has_bits(rounded_down, 0x3FF0000000000000u) && gate_bench_has_bits(rounded_up, 0x3FF0000000000001u) &&
+           gate_bench_has_bits(result, 0x0008000000000000u) && gate_bench_has_bits(operand, 0x3CC0000000000000u);
+}
 
 /* ---- for convenience: a session's three numbers in one place */
 

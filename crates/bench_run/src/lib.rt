@@ -23,11 +23,29 @@ use taker::take_chunk;
 // The places of the most qubits in the program.
 const MOST_PLACES: usize = 2048;
 
+// How a run ended, for whoever started the program.
+pub enum Ended {
+    Whole,
+    Cut,
+    BadHeader,
+    Unwritten,
+}
+
+// What was not written comes first: a reader of the output cannot know of it.
+fn unless_lost(written: bool, as_read: Ended) -> Ended {
+    if written { as_read } else { Ended::Unwritten }
+}
+
 // Only this line.
-fn bad_header() {
+fn bad_header() -> Ended {
     let mut line = [0u8; 128];
     let n = stream::bad_header_line(&mut line);
-    io::write_all(libc::STDOUT_FILENO, &line[..n]);
+    let written = io::write_all(libc::STDOUT_FILENO, &line[..n]);
+    unless_lost(written, Ended::BadHeader)
+}
+
+fn behind_frames(cut: bool) -> Ended {
+    if cut { Ended::Cut } else { Ended::Whole }
 }
 
 // Whether more is to be read: not behind the end of the input, a cut, or the end of the output.
@@ -102,7 +120,7 @@ fn take_all(
 }
 
 // The frames, and then the state behind them.
-fn run_session(input: i32, session: Session, reals: &mut [f64], imags: &mut [f64]) {
+fn run_session(input: i32, session: Session, reals: &mut [f64], imags: &mut [f64]) -> Ended {
     let mut frame = [0u8; 97];
     let mut out = io::large_buffer();
     let start = Taker {
@@ -117,31 +135,34 @@ fn run_session(input: i32, session: Session, reals: &mut [f64], imags: &mut [f64
     let cut = cut_short(gathering, &frame);
     let last = end.session;
     let output = end.output;
-    print_state(cut, last.count, reals, imags, &mut out, output);
+    let written = print_state(cut, last.count, reals, imags, &mut out, output);
+    unless_lost(written, behind_frames(cut))
 }
 
 // From state real 1 at index 0, with the places that a state of n qubits has.
-fn run_places(input: i32, session: Session, size: usize) {
+fn run_places(input: i32, session: Session, size: usize) -> Ended {
     let mut reals = [0.0; MOST_PLACES];
     let mut imags = [0.0; MOST_PLACES];
     reals[0] = 1.0;
-    if size <= MOST_PLACES {
-        run_session(input, session, &mut reals[0..size], &mut imags[0..size]);
+    if MOST_PLACES < size {
+        return bad_header();
     }
+    run_session(input, session, &mut reals[0..size], &mut imags[0..size])
 }
 
-fn run_bench(input: i32, n: u32, number: u32) {
+fn run_bench(input: i32, n: u32, number: u32) -> Ended {
     let started = Session::start(n, number);
     let Started::Fresh(session) = started else {
-        return;
+        return bad_header();
     };
-    if n <= MOST_IN_PROGRAM as u32 {
-        run_places(input, session, 1 << n);
+    if (MOST_IN_PROGRAM as u32) < n {
+        return bad_header();
     }
+    run_places(input, session, 1 << n)
 }
 
 // From an open descriptor: that of a stored run, or standard input.
-pub fn run_from(input: i32) {
+pub fn run_from(input: i32) -> Ended {
     let mut head = [0u8; 8];
     let got = io::read_full(input, &mut head);
     let header = frames::read_header(&head[..got]);
@@ -151,6 +172,16 @@ pub fn run_from(input: i32) {
     }
 }
 
+fn tell(line: &[u8]) {
+    io::write_all(libc::STDERR_FILENO, line);
+}
+
+// The language has no exit status: ./bench makes one of the line on standard error. Standard output has 01's lines alone.
 pub fn run() {
-    run_from(libc::STDIN_FILENO);
+    match run_from(libc::STDIN_FILENO) {
+        Ended::Whole => {}
+        Ended::Cut => tell(b"gate_bench: CUT\n"),
+        Ended::BadHeader => tell(b"gate_bench: BAD HEADER\n"),
+        Ended::Unwritten => tell(b"gate_bench: not everything could be written\n"),
+    }
 }

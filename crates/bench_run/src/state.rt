@@ -33,6 +33,7 @@ fn print_amplitudes(reals: &[f64], imags: &[f64], out: &mut [u8], start: Output)
     output
 }
 
+// Whether all of the output was written.
 pub(crate) fn print_state(
     cut: bool,
     count: u16,
@@ -40,11 +41,11 @@ pub(crate) fn print_state(
     imags: &[f64],
     out: &mut [u8],
     start: Output,
-) {
+) -> bool {
     let behind_cut = print_cut(cut, out, start);
     let behind_state = print_amplitudes(reals, imags, out, behind_cut);
     let mut line = [0u8; 128];
     let n = stream::end_line(&mut line, count);
     let behind_end = print(out, behind_state, &line[..n]);
-    flush(out, behind_end);
+    flush(out, behind_end).open
 }

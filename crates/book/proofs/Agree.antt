@@ -10,6 +10,10 @@ use Rattle.book.specs.declared.Answer.the-variants.{Taken, Value, Refuse
 use Rattle.book.specs.declared.Refusal.{Refusal}
 use Rattle.book.specs.declared.Refusal.the-variants.{Size, Length, Qubit, Same, Form, Number, Chance, Record, Session, Early, Full, Room}
 
+-- What a definition tells of an answer gives the answer back: then two answers of which it tells the same are the same.
+pub agree : {A B : Type 0} (tells : A → B) (back : B → A) → ((x : A) → back (tells x) ≡ x) → {a a′ : A} {b : B} → tells a ≡ b → tells a′ ≡ b → a ≡ a′
+agree tells back is {a} {a′} p q = sym (is a) ∙ ap back (p ∙ sym q) ∙ is a′
+
 -- the refusal of a number
 abbrev pub refusalOf : ℕ → Refusal
 refusalOf k =
@@ -39,7 +43,9 @@ answer-back Taken = refl
 answer-back (Value v) = refl
 answer-back (Refused r) = ap Refused (refusal-back r)
 
+pub says-agree : {a a′ : Answer} {s : Said} → says a ≡ s → says a′ ≡ s → a ≡ a′
+says-agree = agree says answerOf answer-back
+
 -- a kernel, a measurement, a matrix call
 pub does-agree : {o : Outcome} {a a′ : Answer} {b b′ : Buffers} → Does o a b → Does o a′ b′ → (a ≡ a′) × (b ≡ b′)
-does-agree {a = a} {a′ = a′} x y =
-    (sym (answer-back a) ∙ ap answerOf (x .answers ∙ sym (y .answers)) ∙ answer-back a′, x .leaves ∙ sym (y .leaves))
+does-agree x y = (says-agree (x .answers) (y .answers), x .leaves ∙ sym (y .leaves))

@@ -1,9 +1,9 @@
--- Demand 3, proved: by one delivery after the other, with `Holds` between them. Junk, repeats and early records leave everything as it is and make no start
--- longer; the next record of the list is taken, since all are accepted in order, and makes the longest start one longer. Assumes nothing.
+-- Demand 3, proved: by one delivery after the other, with `Holds` between them. Junk, repeats, early records and other sessions' leave everything as it is and
+-- make no start longer; the next record of the list is taken, since all are accepted in order, and makes the longest start one longer. Assumes nothing.
 use Prim.Native.Nat.{ℕ, zero, suc, _+_, _^_, _≤_, _<_}
 use mathlib.Core.Bool.{Bool, true, false, cond}
 use mathlib.Core.List.{List, [], _∷_, _++_, append-nil, append-assoc}
-use mathlib.Core.Logic.{inl, inr}
+use mathlib.Core.Logic.{inl, inr, ⊎-elim}
 use mathlib.Core.Option.{Option, some, none}
 use mathlib.Core.Path.{_≡_, refl, sym, ap, _∙_, subst}
 use native.Mathlib.Nat.{add-zero, zero-add}
@@ -12,16 +12,15 @@ use native.Mathlib.Omega.{arith}
 use borrow.Author.Tests.{lt-ltb, le-ltb, eq-eqb, ne-eqb, ltb-true, ltb-false}
 use lib.Dec.{ltb, eqb}
 use lib.ListN.{length, take, drop, getD, take-append-drop}
-use lib.Seq.{length-take-le}
 use Rattle.book.specs.Answers.{refused, again, said, Replied, first, Buffers, outcomeOf, accepts}
 use Rattle.book.specs.Calls.{callOf, act}
-use Rattle.book.specs.ExactlyOnce.{FoundIn, done, Longest, In, Numbered, give, OneOf, AllOf, cons, seen, Given, ExactlyOnce, KeepsItsOwn}
+use Rattle.book.specs.ExactlyOnce.{Longest, In, Numbered, give, OneOf, AllOf, cons, seen, Given, ExactlyOnce, KeepsItsOwn}
 use Rattle.book.specs.Kernels.{badSize, mostQubits, badLength, sizeTests}
 use Rattle.book.specs.Records.{readRecord}
 use Rattle.book.specs.Sessions.{Session, session, raised, Delivery, kept, counted, standing, takeRecord, takeRead, takeSized, deliver, deliverAll}
 use Rattle.book.specs.declared.Record.{Record}
 use Rattle.book.proofs.Calls.{sized-right}
-use Rattle.book.proofs.Found.{longest-same, longest-next, found-nil}
+use Rattle.book.proofs.Found.{longest-none, longest-same, longest-next}
 use Rattle.book.proofs.Lengths.{act-fits}
 use Rattle.book.proofs.Refusals.{sizes-numbered, sizes-right}
 
@@ -54,10 +53,11 @@ placed own j (x ∷ rs) r w (inr h) =
       start = ap (λ (l : List Record). x ∷ l) (p .start);
     }
 
-numbered-at : (own j : ℕ) (rs : List Record) (i : ℕ) (d : Record) → Numbered own j rs → i < length rs → (getD rs i d) .number ≡ j + i
+numbered-at : (own j : ℕ) (rs : List Record) (i : ℕ) (d : Record) → Numbered own j rs → i < length rs
+    → (getD rs i d .session ≡ own) × (getD rs i d .number ≡ j + i)
 numbered-at own j [] i d w h = absurd (omega arith)
-numbered-at own j (x ∷ rs) zero d w h = w .1 ∙ sym (add-zero j)
-numbered-at own j (x ∷ rs) (suc i) d w h = omega (arith, numbered-at own (j + 1) rs i d (w .2) (omega arith))
+numbered-at own j (x ∷ rs) zero d w h = (w .0, w .1 ∙ sym (add-zero j))
+numbered-at own j (x ∷ rs) (suc i) d w h = let at = numbered-at own (j + 1) rs i d (w .2) (omega arith) in (at .0, omega (arith, at .1))
 
 -- ---- what records give
 
@@ -145,7 +145,7 @@ module _ (n own : ℕ) (b₀ : Buffers) (rs : List Record) (g : Given n own b₀
       unfolding k
       not-next other =
           longest-same r (h .longest)
-          (λ room e. other (ap (λ (y : Record). y .number) (sym e) ∙ numbered-at own 0 rs (h .k) r (g .made) room ∙ zero-add (h .k)))
+          (λ room e. other (ap (λ (y : Record). y .number) (sym e) ∙ numbered-at own 0 rs (h .k) r (g .made) room .1 ∙ zero-add (h .k)))
 
       module _ (bytes : List ℕ) (d : Delivery) (is : d ≡ takeRecord s b bytes r (standing s r)) where
         answered : (x : Option Replied) → standing s r ≡ x → d ≡ takeRecord s b bytes r x
@@ -194,7 +194,16 @@ module _ (n own : ℕ) (b₀ : Buffers) (rs : List Record) (g : Given n own b₀
             by false e true f = early (ltb-true _ _ f)
             by false e false f = next (omega (arith, ltb-false (r .number) (s .count) e, ltb-false (s .count) (r .number) f))
 
-    one : (bytes : List ℕ) → OneOf rs bytes → (d : Delivery) → d ≡ takeRead s b bytes (readRecord bytes)
+    -- a record of another session: 9, and it is none of the list's
+    other-session : (r : Record) → (r .session ≡ own → ⊥) → (bytes : List ℕ) (d : Delivery) → d ≡ takeRecord s b bytes r (standing s r)
+        → Holds (xs ++ (r ∷ [])) (d .next) (d .left)
+    unfolding k
+    other-session r other bytes d is =
+        let nine : standing s r ≡ some (said (refused 9)) = rw (ne-eqb (r .session) (s .number) (λ e. other (e ∙ h .own-is))) in
+        stays (xs ++ (r ∷ [])) d (said (refused 9)) (is ∙ ap (takeRecord s b bytes r) nine)
+        (longest-same r (h .longest) (λ room e. other (ap (λ (y : Record). y .session) (sym e) ∙ numbered-at own 0 rs (h .k) r (g .made) room .0)))
+
+    one : (bytes : List ℕ) → OneOf own rs bytes → (d : Delivery) → d ≡ takeRead s b bytes (readRecord bytes)
         → Holds (xs ++ cons (readRecord bytes) []) (d .next) (d .left)
     unfolding k
     one bytes (inl e) d is =
@@ -202,11 +211,15 @@ module _ (n own : ℕ) (b₀ : Buffers) (rs : List Record) (g : Given n own b₀
         (subst (λ (ys : List Record). Holds ys (d .next) (d .left)) (sym (append-nil xs))
         (stays xs d (said (refused 8)) (is ∙ ap (takeRead s b bytes) e) (h .longest)))
     one bytes (inr w) d is =
-        let (r, member, e) = w in
+        let (r, which, e) = w in
+        let read : d ≡ takeRecord s b bytes r (standing s r) = is ∙ ap (takeRead s b bytes) e in
         subst (λ (x : Option Record). Holds (xs ++ cons x []) (d .next) (d .left)) (sym e)
-        (one-record r (placed own 0 rs r (g .made) member) bytes d (is ∙ ap (takeRead s b bytes) e))
+        (⊎-elim
+        (λ member. one-record r (placed own 0 rs r (g .made) member) bytes d read)
+        (λ other. other-session r other bytes d read)
+        which)
 
-  step : (xs : List Record) (s : Session) (b : Buffers) (bytes : List ℕ) → OneOf rs bytes → Holds xs s b
+  step : (xs : List Record) (s : Session) (b : Buffers) (bytes : List ℕ) → OneOf own rs bytes → Holds xs s b
       → Holds (xs ++ cons (readRecord bytes) []) (deliver s b bytes .next) (deliver s b bytes .left)
   step xs s b bytes w h = one s b xs h bytes w (deliver s b bytes) (ready s b xs h bytes)
 
@@ -216,7 +229,7 @@ module _ (n own : ℕ) (b₀ : Buffers) (rs : List Record) (g : Given n own b₀
   cons-append (some r) ys = refl
   cons-append none ys = refl
 
-  steps : (ds : List (List ℕ)) (xs : List Record) (s : Session) (b : Buffers) → AllOf rs ds → Holds xs s b
+  steps : (ds : List (List ℕ)) (xs : List Record) (s : Session) (b : Buffers) → AllOf own rs ds → Holds xs s b
       → let bench = deliverAll (record { session = s; state = b }) ds in
       Holds (xs ++ seen ds) (bench .session) (bench .state)
   steps [] xs s b w h = rw append-nil h
@@ -235,13 +248,10 @@ module _ (n own : ℕ) (b₀ : Buffers) (rs : List Record) (g : Given n own b₀
         n-is = ap (λ (s : Session). s .n) is;
         own-is = ap (λ (s : Session). s .number) is;
         count = ap (λ (s : Session). s .count) is;
-        longest = record { within = omega arith; found = done; most = none-found };
+        longest = longest-none rs;
         state = refl;
         fits = g .fits;
       }
-    where
-      none-found : (j : ℕ) → j ≤ length rs → FoundIn (take j rs) [] → j ≤ 0
-      none-found j h m = omega (arith, length-take-le j rs h, ap length (found-nil m))
 
 seen-append : (ds : List (List ℕ)) (bytes : List ℕ) → seen ds ++ cons (readRecord bytes) [] ≡ seen (ds ++ (bytes ∷ []))
 seen-append [] bytes = refl

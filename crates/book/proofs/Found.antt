@@ -1,4 +1,5 @@
--- How one delivery more changes the longest start found in order: by what is found in a list with one place more at its end. Assumes nothing.
+-- How one delivery more changes the longest start found in order: by what is found in a list with one place more at its end. And there is one longest start.
+-- Assumes nothing.
 use Prim.Native.Nat.{ℕ, zero, suc, _+_, _≤_, _<_}
 use native.Mathlib.Omega.{arith}
 use native.Mathlib.Numerals.{add-one}
@@ -6,12 +7,16 @@ use mathlib.Core.Logic.{_⊎_, inl, inr, ⊎-elim}
 use mathlib.Core.Path.{_≡_, refl, sym, ap, _∙_, subst}
 use mathlib.Core.List.{List, [], _∷_, _++_}
 use lib.ListN.{length, take, getD}
-use lib.Seq.{take-suc}
+use lib.Seq.{length-take-le, take-suc}
 use Rattle.book.specs.ExactlyOnce.{FoundIn, done, skip, keep, Longest}
 
 module _ {A : Type 0} where
-  pub found-nil : {xs : List A} → FoundIn xs [] → xs ≡ []
+  found-nil : {xs : List A} → FoundIn xs [] → xs ≡ []
   found-nil done = refl
+
+  -- before any delivery
+  pub longest-none : (rs : List A) → Longest 0 rs []
+  longest-none rs = record { within = omega arith; found = done; most = λ j h a. omega (arith, length-take-le j rs h, ap length (found-nil a)) }
 
   found-more : {xs ys : List A} (y : A) → FoundIn xs ys → FoundIn xs (ys ++ (y ∷ []))
   found-more y done = skip done
@@ -84,3 +89,7 @@ module _ {A : Type 0} where
           let (i, p, q, r) = w in
           let room : suc i ≤ length rs = omega arith in
           omega (arith, shorter l i room q a)
+
+  -- there is one longest start
+  pub longest-one : {j k : ℕ} {rs ys : List A} → Longest j rs ys → Longest k rs ys → j ≡ k
+  longest-one {j} {k} x y = omega (arith, y .most j (x .within) (x .found), x .most k (y .within) (y .found))

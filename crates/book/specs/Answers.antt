@@ -49,6 +49,16 @@ replies (Value′ v) = said (value v)
 replies Again = again
 replies (Refused′ r) = said (refused (numberOf r))
 
+-- what a call gives that has a result to hand over: it, or a refusal's number
+pub data Gives (A : Type 0) : Type 0 where
+  gives : A → Gives A
+  denied : ℕ → Gives A
+
+-- where there is none, this refusal
+abbrev pub orDenied : {A : Type 0} → ℕ → Option A → Gives A
+orDenied k (some a) = gives a
+orDenied k none = denied k
+
 -- ---- tests
 
 -- A test of the table: where it applies, the refusal has this number.

@@ -48,13 +48,13 @@ give n b (r ∷ rs) =
 
 -- ---- the deliveries
 
--- one of the records, or unreadable bytes
-abbrev pub OneOf : List Record → List ℕ → Type 0
-OneOf rs bytes = (readRecord bytes ≡ none) ⊎ ((r : Record) × In r rs × (readRecord bytes ≡ some r))
+-- unreadable bytes, one of the records, or a record of another session
+abbrev pub OneOf : ℕ → List Record → List ℕ → Type 0
+OneOf own rs bytes = (readRecord bytes ≡ none) ⊎ ((r : Record) × (In r rs ⊎ (r .session ≡ own → ⊥)) × (readRecord bytes ≡ some r))
 
-abbrev pub AllOf : List Record → List (List ℕ) → Type 0
-AllOf rs [] = Unit
-AllOf rs (bytes ∷ more) = OneOf rs bytes × AllOf rs more
+abbrev pub AllOf : ℕ → List Record → List (List ℕ) → Type 0
+AllOf own rs [] = Unit
+AllOf own rs (bytes ∷ more) = OneOf own rs bytes × AllOf own rs more
 
 -- the records among the deliveries
 abbrev pub cons : Option Record → List Record → List Record
@@ -89,7 +89,7 @@ pub record Once (n : ℕ) (b : Buffers) (rs so-far : List Record) (count : ℕ) 
 abbrev pub ExactlyOnce : Type 0
 ExactlyOnce =
     (n own : ℕ) (b : Buffers) (rs : List Record) (given : Given n own b rs)
-    → (ds : List (List ℕ)) (bytes : List ℕ) → AllOf rs ds → OneOf rs bytes
+    → (ds : List (List ℕ)) (bytes : List ℕ) → AllOf own rs ds → OneOf own rs bytes
     → let bench = deliverAll (record { session = given .session; state = b }) ds in
     let d = deliver (bench .session) (bench .state) bytes in
     Once n b rs (seen (ds ++ (bytes ∷ []))) (d .next .count) (d .left)

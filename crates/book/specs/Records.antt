@@ -7,6 +7,7 @@ use mathlib.Core.Option.{Option, some, none}
 use lib.Dec.{leb, ltb, eqb}
 use lib.Ieee.{Float, binary64, ofBits, toBits}
 use lib.ListN.{length, take, drop, getD}
+use Rattle.book.specs.Answers.{numberOf, Gives, gives, denied}
 use Rattle.book.specs.Gates.{angleOf, anglesOf, noiseOf}
 use Rattle.book.specs.State.{controlled}
 use Rattle.book.specs.declared.Angle.{Angle}
@@ -20,7 +21,6 @@ use Rattle.book.specs.declared.Parts.{Parts}
 use Rattle.book.specs.declared.Read.{Read}
 use Rattle.book.specs.declared.Read.the-variants.{Record as Found, Refused as Unread}
 use Rattle.book.specs.declared.Record.{Record}
-use Rattle.book.specs.declared.Refusal.the-variants.{Record as NoRecord, Room}
 use Rattle.book.specs.declared.Shape.{Shape}
 use Rattle.book.specs.declared.Shape.the-variants.{Plain, Angled, Eight, Second, Forced, Noisy}
 use Rattle.book.specs.declared.Written.{Written}
@@ -114,8 +114,12 @@ abbrev pub mostBytes : ℕ
 mostBytes = 94
 
 -- The writer answers how many bytes the record has and touches only those; refusal 12 if the buffer is shorter.
-abbrev pub wroteOf : Record → List ℕ → Written
-wroteOf r out = cond (ltb (length out) (length (writeRecord r))) (Unwritten Room) (Bytes (length (writeRecord r)))
+abbrev pub writtenSays : Written → Gives ℕ
+writtenSays (Bytes k) = gives k
+writtenSays (Unwritten x) = denied (numberOf x)
+
+abbrev pub wroteOf : Record → List ℕ → Gives ℕ
+wroteOf r out = cond (ltb (length out) (length (writeRecord r))) (denied 12) (gives (length (writeRecord r)))
 
 abbrev pub leftBy : Record → List ℕ → List ℕ
 leftBy r out =
@@ -180,6 +184,6 @@ readRecord bs =
     recordWith (number session) (number k) (readRow (rowOf (number code)) (number target) bs₄)
 
 -- what the reader answers: the record, or refusal 8
-abbrev pub readOf : Option Record → Read
-readOf (some r) = Found r
-readOf none = Unread NoRecord
+abbrev pub readSays : Read → Gives Record
+readSays (Found r) = gives r
+readSays (Unread x) = denied (numberOf x)

@@ -1,21 +1,19 @@
 -- What a start tells, from what it gave. Assumes nothing.
-use Prim.Native.Nat.{ℕ}
-use native.Mathlib.Omega.{arith}
-use mathlib.Core.Option.{Option, some, none}
-use mathlib.Core.Path.{_≡_, refl, ap}
-use Rattle.book.specs.Answers.{numberOf}
+use mathlib.Core.Option.{Option}
+use mathlib.Core.Path.{_≡_, sym, ap, _∙_}
+use Rattle.book.proofs.Gives.{gives-is, denied-is}
+use Rattle.book.specs.Answers.{numberOf, orDenied}
 use Rattle.book.specs.Sessions as Book
 use Rattle.book.specs.declared.Refusal.{Refusal}
-use Rattle.book.specs.declared.Refusal.the-variants.{Size}
-use Rattle.sessions.specs.Deliveries.{started}
+use Rattle.sessions.specs.Deliveries.{startedSays}
 use Rattle.sessions.specs.declared.Session.{Session}
+use Rattle.sessions.specs.declared.Started.{Started}
 use Rattle.sessions.specs.declared.Started.the-variants.{Fresh, Refused}
 use Rattle.c_api.specs.Tells.{startOf}
 
-pub fresh : {s : Session} (o : Option Book.Session) → started o ≡ Fresh s → 0 ≡ startOf o
-fresh (some b) e = refl
-fresh none e = let z : _≡_ {A = ℕ} 0 1 = cc in absurd (omega arith)
+module _ (o : Option Book.Session) {started : Started} (says : startedSays started ≡ orDenied 1 o) where
+  pub fresh : {s : Session} → started ≡ Fresh s → 0 ≡ startOf o
+  fresh e = sym (ap startOf (gives-is 1 o (sym (ap startedSays e) ∙ says)))
 
-pub unstarted : {r : Refusal} (o : Option Book.Session) → started o ≡ Refused r → numberOf r ≡ startOf o
-unstarted (some b) e = let z : _≡_ {A = ℕ} 0 1 = cc in absurd (omega arith)
-unstarted {r} none e = let same : r ≡ Size = cc in ap numberOf same
+  pub unstarted : {r : Refusal} → started ≡ Refused r → numberOf r ≡ startOf o
+  unstarted e = let n = denied-is 1 o (sym (ap startedSays e) ∙ says) in n .1 ∙ sym (ap startOf (n .0))

@@ -1,4 +1,3 @@
--- Answers as numbers, the contracts of the calls, and demand 3 of the archive.
+-- Answers as numbers, and the contracts of the calls.
 pub mod Tells
 pub mod Spelling
-pub mod ExactlyOnce

@@ -5,11 +5,9 @@ use mathlib.Core.List.{List}
 use mathlib.Core.Option.{Option, some, none}
 use mathlib.Core.Path.{_≡_}
 use lib.Ieee.{Float}
-use Rattle.book.specs.Answers.{numberOf}
+use Rattle.book.specs.Answers.{Gives, gives, denied}
 use Rattle.book.specs.Records.{wroteOf, leftBy}
 use Rattle.book.specs.declared.Record.{Record}
-use Rattle.book.specs.declared.Written.{Written}
-use Rattle.book.specs.declared.Written.the-variants.{Bytes, Refused as Unwritten}
 use Rattle.flat.specs.Numbers.{flatFields, flatNumbers, over, tooFew}
 
 -- Reading: 8 where the bytes are no record, else 12 where fewer places are lent, else 0.
@@ -31,13 +29,13 @@ pub record Reads (read : Option Record) (fs : List ℕ) (xs : List Float) (code 
   pub numbers : xs′ ≡ numbersAfter read fs xs
 
 -- Writing: 8 where the numbers are no record's, else how many bytes, or 12.
-abbrev pub writtenOf : Written → ℕ
-writtenOf (Bytes k) = k
-writtenOf (Unwritten refusal) = numberOf refusal
+abbrev pub writtenNumber : Gives ℕ → ℕ
+writtenNumber (gives k) = k
+writtenNumber (denied k) = k
 
 abbrev pub writeCode : Option Record → List ℕ → ℕ
 writeCode none out = 8
-writeCode (some r) out = writtenOf (wroteOf r out)
+writeCode (some r) out = writtenNumber (wroteOf r out)
 
 abbrev pub outAfter : Option Record → List ℕ → List ℕ
 outAfter none out = out

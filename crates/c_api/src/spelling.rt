@@ -4,9 +4,9 @@ use answers::tell;
 use book::Read;
 use book::Written;
 use flat::put_record;
-use flat::record_of;
+use from_flat::record_of;
 ghost use Rattle.book.specs.Records.{readRecord};
-ghost use Rattle.flat.specs.Numbers.{recordOf};
+ghost use Rattle.from_flat.specs.Records.{recordOf};
 ghost use Rattle.c_api.specs.Spelling.{Reads, Writes};
 
 // The bytes as a record: 8 if they are none; then 12 if fewer places are lent than a record's numbers take.

@@ -1,4 +1,5 @@
-// What a gate is fed, as one value: its rule with its own numbers. How many controls it takes, its own tests, and what a loop over pairs needs of it.
+// The gates by number, and what each is fed: how many controls it takes, its own tests, and its rule where that needs F or leaves s0 as it is.
+// A number and its angle are passed as they are, and not as an enum: where a call names the number, the compiler keeps what that gate needs.
 use book::ANY;
 use book::Amplitude;
 use book::Angle;
@@ -9,52 +10,71 @@ use book::Pair;
 use fused_rules::p_upper;
 use fused_rules::rz_rule;
 use fused_rules::u_rule;
-use rules::put_quick;
-use rules::u_matrix;
 use rules::z_upper;
 ghost use mathlib.Core.Path.{_≡_};
 ghost use Rattle.book.specs.Gates.{angleOf, finiteTests};
 ghost use Rattle.judging.specs.Judging.{Judges};
-ghost use Rattle.fed.specs.Named.{mostOf, ownOf, putOf, Feeds, Suits, upperMost, upperOwn, upperOf, FeedsUpper};
+ghost use Rattle.fed.specs.Named.{mostOf, ownOf, fusedOf, upperMost, upperOwn, upperOf};
 
-// The gates that change both places of a pair.
-pub enum Rule {
-    X,
-    Y,
-    H,
-    Rx(Angle),
-    Ry(Angle),
-    Rz(Angle),
-    U(Angles),
-}
+// The gates that change both places of a pair: those that need no F first.
+pub const X: u32 = 0;
+
+pub const Y: u32 = 1;
+
+pub const H: u32 = 2;
+
+pub const RX: u32 = 3;
+
+pub const RY: u32 = 4;
+
+pub const RZ: u32 = 5;
+
+pub const U: u32 = 6;
 
 // The gates that leave s0 as it is.
-pub enum Upper {
-    Z,
-    P(Angle),
-}
+pub const Z: u32 = 0;
+
+pub const P: u32 = 1;
+
+// For a gate that takes no angle, or not U's numbers: it does not look at them.
+pub const NO_ANGLE: Angle = Angle {
+    cosine: 1.0,
+    sine: 0.0,
+};
+
+pub const NO_ANGLES: Angles = Angles {
+    ct: 1.0,
+    st: 0.0,
+    cl: 1.0,
+    sl: 0.0,
+    cpl: 1.0,
+    spl: 0.0,
+    cp: 1.0,
+    sp: 0.0,
+};
 
 // How many controls the gate takes.
-pub fn most(rule: Rule) -> u32
+pub fn most(rule: u32) -> u32
     ensures { λ r. ⌜ r ≡ mostOf rule ⌝ }
 {
-    match rule {
-        Rule::X => ANY,
-        Rule::Y => 1,
-        Rule::H => 1,
-        Rule::Rx(_) => ANY,
-        Rule::Ry(_) => ANY,
-        Rule::Rz(_) => 1,
-        Rule::U(_) => 1,
+    if rule == X {
+        return ANY;
     }
+    if rule <= H {
+        return 1;
+    }
+    if rule <= RY {
+        return ANY;
+    }
+    1
 }
 
-pub fn most_of_upper(upper: Upper) -> u32
+pub fn most_of_upper(upper: u32) -> u32
     ensures { λ r. ⌜ r ≡ upperMost upper ⌝ }
 {
     match upper {
-        Upper::Z => 0,
-        Upper::P(_) => ANY,
+        0 => 0,
+        _ => ANY,
     }
 }
 
@@ -66,91 +86,43 @@ fn judge_angle(angle: Angle) -> Answer
 }
 
 // The gate's own tests, behind those of its seat.
-pub fn own(rule: Rule) -> Answer
-    ensures { λ r. ⌜ Judges (ownOf rule) r ⌝ }
+pub fn own(rule: u32, angle: Angle, angles: Angles) -> Answer
+    ensures { λ r. ⌜ Judges (ownOf rule angle angles) r ⌝ }
 {
-    match rule {
-        Rule::X => Answer::Taken,
-        Rule::Y => Answer::Taken,
-        Rule::H => Answer::Taken,
-        Rule::Rx(angle) => judge_angle(angle),
-        Rule::Ry(angle) => judge_angle(angle),
-        Rule::Rz(angle) => judge_angle(angle),
-        Rule::U(g) => judging::numbers(&[g.ct, g.st, g.cl, g.sl, g.cpl, g.spl, g.cp, g.sp]),
+    if rule <= H {
+        return Answer::Taken;
     }
+    if rule <= RZ {
+        return judge_angle(angle);
+    }
+    let g = angles;
+    judging::numbers(&[g.ct, g.st, g.cl, g.sl, g.cpl, g.spl, g.cp, g.sp])
 }
 
-pub fn own_of_upper(upper: Upper) -> Answer
-    ensures { λ r. ⌜ Judges (upperOwn upper) r ⌝ }
+pub fn own_of_upper(upper: u32, angle: Angle) -> Answer
+    ensures { λ r. ⌜ Judges (upperOwn upper angle) r ⌝ }
 {
     match upper {
-        Upper::Z => Answer::Taken,
-        Upper::P(angle) => judge_angle(angle),
+        0 => Answer::Taken,
+        _ => judge_angle(angle),
     }
 }
 
-// What a loop is fed: a number for the gate, those that need no F first, and its angle. A gate that takes none is fed one that it does not look at.
+// What the loop over keys is fed: RZ's number with its angle, or U's with its eight.
 pub struct Fed {
     pub number: u32,
     pub angle: Angle,
+    pub angles: Angles,
 }
 
-fn without(number: u32) -> Fed
-    ensures { λ r. ⌜ r .number ≡ number ⌝ }
+// The rule put to a pair; U's matrix was made before.
+pub fn put(number: u32, angle: Angle, matrix: Matrix, p: Pair) -> Pair
+    ensures { λ r. ⌜ r ≡ fusedOf number angle matrix p ⌝ }
 {
-    Fed {
-        number,
-        angle: Angle {
-            cosine: 1.0,
-            sine: 0.0,
-        },
+    if number == RZ {
+        return rz_rule(angle, p);
     }
-}
-
-pub fn feed(rule: Rule) -> Fed
-    ensures { λ r. ⌜ Feeds rule r ⌝ }
-{
-    match rule {
-        Rule::X => without(0),
-        Rule::Y => without(1),
-        Rule::H => without(2),
-        Rule::Rx(angle) => Fed { number: 3, angle },
-        Rule::Ry(angle) => Fed { number: 4, angle },
-        Rule::Rz(angle) => Fed { number: 5, angle },
-        Rule::U(_) => without(6),
-    }
-}
-
-// U's matrix, made once; no other rule looks at one.
-pub fn matrix(rule: Rule) -> Matrix
-    ensures { λ r. ⌜ Suits rule r ⌝ }
-{
-    if let Rule::U(angles) = rule {
-        return u_matrix(angles);
-    }
-    let zero = Amplitude { re: 0.0, im: 0.0 };
-    Matrix { entries: [zero; 4] }
-}
-
-// The rule put to a pair.
-pub fn put(fed: Fed, matrix: Matrix, p: Pair) -> Pair
-    ensures { λ r. ⌜ r ≡ putOf fed matrix p ⌝ }
-{
-    let number = fed.number;
-    match number {
-        5 => rz_rule(fed.angle, p),
-        6 => u_rule(matrix, p),
-        _ => put_quick(number, fed.angle, p),
-    }
-}
-
-pub fn feed_upper(upper: Upper) -> Fed
-    ensures { λ r. ⌜ FeedsUpper upper r ⌝ }
-{
-    match upper {
-        Upper::Z => without(0),
-        Upper::P(angle) => Fed { number: 1, angle },
-    }
+    u_rule(matrix, p)
 }
 
 // What the gate makes of s1, by number: a call with a literal leaves one rule to compile.

@@ -1,5 +1,4 @@
--- Puts: what straight-line stores leave. Recorded: the record that flat numbers are, test by test.
--- Back: a record comes back from its numbers.
+-- Puts: what straight-line stores leave. Enough: there are places enough. Agree: a contract allows one result.
 pub mod Puts
-pub mod Recorded
-pub mod Back
+pub mod Enough
+pub mod Agree

@@ -3,15 +3,15 @@ ghost use mathlib.Core.Path.{_≡_};
 ghost use lib.Ieee.{binary64};
 ghost use Rattle.numbers.specs.Fused as Def;
 
-// F(x,y,z): xy+z rounded once.
+// F(x,y,z): xy+z rounded once. Where it is a NaN, it is 01's.
 pub fn fused(x: f64, y: f64, z: f64) -> f64
     ensures { λ r. ⌜ r ≡ Def.fused binary64 x y z ⌝ }
 {
     if !operands::is_ordinary(x) {
-        return x * y + z;
+        return operands::with_one_nan(x * y + z);
     }
     if !operands::is_ordinary(y) {
-        return x * y + z;
+        return operands::with_one_nan(x * y + z);
     }
     if operands::is_ordinary(z) {
         return terms::of_ordinary(x, y, z);
@@ -20,5 +20,5 @@ pub fn fused(x: f64, y: f64, z: f64) -> f64
     if operands::is_finite(z) {
         return x * y;
     }
-    z
+    operands::with_one_nan(z)
 }

@@ -4,8 +4,17 @@ use book::Angles;
 use book::Answer;
 use book::Controls;
 use book::Noise;
-use fed::Rule;
-use fed::Upper;
+use fed::H;
+use fed::NO_ANGLE;
+use fed::NO_ANGLES;
+use fed::P;
+use fed::RX;
+use fed::RY;
+use fed::RZ;
+use fed::U;
+use fed::X;
+use fed::Y;
+use fed::Z;
 use sweeps::flip_bit;
 use sweeps::on_pairs;
 use sweeps::swap_bits;
@@ -25,7 +34,7 @@ pub fn x_apply(
 ) -> Answer
     ensures { λ r. ⌜ Does (act n (Gate.X target controls) (before reals imags)) r (after reals imags) ⌝ }
 {
-    on_pairs(reals, imags, n, target, controls, Rule::X)
+    on_pairs(reals, imags, n, target, controls, X, NO_ANGLE, NO_ANGLES)
 }
 
 // Up to one control.
@@ -38,7 +47,7 @@ pub fn y_apply(
 ) -> Answer
     ensures { λ r. ⌜ Does (act n (Gate.Y target controls) (before reals imags)) r (after reals imags) ⌝ }
 {
-    on_pairs(reals, imags, n, target, controls, Rule::Y)
+    on_pairs(reals, imags, n, target, controls, Y, NO_ANGLE, NO_ANGLES)
 }
 
 // No controls.
@@ -51,7 +60,7 @@ pub fn z_apply(
 ) -> Answer
     ensures { λ r. ⌜ Does (act n (Gate.Z target controls) (before reals imags)) r (after reals imags) ⌝ }
 {
-    on_uppers(reals, imags, n, target, controls, Upper::Z)
+    on_uppers(reals, imags, n, target, controls, Z, NO_ANGLE)
 }
 
 // Up to one control.
@@ -64,7 +73,7 @@ pub fn h_apply(
 ) -> Answer
     ensures { λ r. ⌜ Does (act n (Gate.H target controls) (before reals imags)) r (after reals imags) ⌝ }
 {
-    on_pairs(reals, imags, n, target, controls, Rule::H)
+    on_pairs(reals, imags, n, target, controls, H, NO_ANGLE, NO_ANGLES)
 }
 
 // Any number of controls.
@@ -78,7 +87,7 @@ pub fn p_apply(
 ) -> Answer
     ensures { λ r. ⌜ Does (act n (Gate.P target controls angle) (before reals imags)) r (after reals imags) ⌝ }
 {
-    on_uppers(reals, imags, n, target, controls, Upper::P(angle))
+    on_uppers(reals, imags, n, target, controls, P, angle)
 }
 
 // The angle is the half angle, here and below. Any number of controls.
@@ -92,7 +101,7 @@ pub fn rx_apply(
 ) -> Answer
     ensures { λ r. ⌜ Does (act n (Gate.Rx target controls angle) (before reals imags)) r (after reals imags) ⌝ }
 {
-    on_pairs(reals, imags, n, target, controls, Rule::Rx(angle))
+    on_pairs(reals, imags, n, target, controls, RX, angle, NO_ANGLES)
 }
 
 // Any number of controls.
@@ -106,7 +115,7 @@ pub fn ry_apply(
 ) -> Answer
     ensures { λ r. ⌜ Does (act n (Gate.Ry target controls angle) (before reals imags)) r (after reals imags) ⌝ }
 {
-    on_pairs(reals, imags, n, target, controls, Rule::Ry(angle))
+    on_pairs(reals, imags, n, target, controls, RY, angle, NO_ANGLES)
 }
 
 // Up to one control.
@@ -120,7 +129,7 @@ pub fn rz_apply(
 ) -> Answer
     ensures { λ r. ⌜ Does (act n (Gate.Rz target controls angle) (before reals imags)) r (after reals imags) ⌝ }
 {
-    on_pairs(reals, imags, n, target, controls, Rule::Rz(angle))
+    on_pairs(reals, imags, n, target, controls, RZ, angle, NO_ANGLES)
 }
 
 // The eight numbers make the matrix once. Up to one control.
@@ -134,7 +143,7 @@ pub fn u_apply(
 ) -> Answer
     ensures { λ r. ⌜ Does (act n (Gate.U target controls angles) (before reals imags)) r (after reals imags) ⌝ }
 {
-    on_pairs(reals, imags, n, target, controls, Rule::U(angles))
+    on_pairs(reals, imags, n, target, controls, U, NO_ANGLE, angles)
 }
 
 // Amplitudes exchanged whose indices differ by exchanging the bits t0 and t1; a qubit with itself changes nothing.

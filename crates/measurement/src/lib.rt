@@ -6,7 +6,9 @@ use book::Gate;
 use chances::chance;
 use chances::one_over_root;
 use collapses::collapse;
-use fed::Rule;
+use fed::NO_ANGLE;
+use fed::NO_ANGLES;
+use fed::X;
 use sweeps::on_pairs;
 ghost use Rattle.book.specs.Answers.{Does};
 ghost use Rattle.book.specs.Calls.{act};
@@ -22,7 +24,16 @@ fn set_back(reals: &mut [f64], imags: &mut [f64], n: u32, target: u32, forced: F
 {
     if forced.outcome == 1 {
         if forced.reset == 1 {
-            on_pairs(reals, imags, n, target, Controls::of(0), Rule::X);
+            on_pairs(
+                reals,
+                imags,
+                n,
+                target,
+                Controls::of(0),
+                X,
+                NO_ANGLE,
+                NO_ANGLES,
+            );
         }
     }
 }

@@ -8,7 +8,7 @@ use mathlib.Core.Bool.{Bool, true, false, not, cond, _&&_, _||_, Bool·beq, true
 use borrow.Author.Tests.{eq-eqb, ne-eqb, eqb-true, eqb-false}
 use lib.IntN.{pos}
 use lib.Dec.{T, leb, eqb}
-use lib.Ieee.{Float, nan, inf, fin, Format, binary64, prec, low, up, down, odd, eq, fits, isNan, hid, ones, top}
+use lib.Ieee.{Float, nan, inf, fin, Format, binary64, prec, low, up, down, odd, eq, fits, isNan, hid, ones, top, div}
 use lib.Ieee.{ofFields, ofBits, toBits}
 use lib.Ieee.Fits.{up-pos}
 use lib.Ieee.Bits.{ofBits-toBits}
@@ -20,6 +20,10 @@ use Rattle.operands.specs.Operands.{isZero, ordinary, Unpacked}
 pub zero-is : ofBits binary64 0 ≡ fin false 0 (pos 0)
 unfolding ofBits
 zero-is = refl
+
+pub nan-is : div binary64 (ofBits binary64 0) (ofBits binary64 0) ≡ nan
+unfolding div ofBits
+nan-is = refl
 
 zero-test : (s : Bool) (a b : ℕ) → b ≡ 0 → (eqb a b && (Bool·beq s false || eqb a 0)) ≡ eqb a 0
 zero-test s a b h = ap (λ (y : ℕ). eqb a y && (Bool·beq s false || eqb a 0)) h ∙ go (eqb a 0) (Bool·beq s false)

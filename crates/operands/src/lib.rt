@@ -29,6 +29,14 @@ pub fn is_ordinary(x: f64) -> bool
     if is_finite(x) { !is_zero(x) } else { false }
 }
 
+// The processor has many NaN, and makes one with a sign; the logic has one. So where one may arise, the literal stands in its place: the compiler works
+// 0.0 / 0.0 out, to 7FF8000000000000.
+pub fn with_one_nan(x: f64) -> f64
+    ensures { λ r. ⌜ r ≡ x ⌝ }
+{
+    if x != x { 0.0 / 0.0 } else { x }
+}
+
 // m * 2^e smallest values, with a sign.
 pub struct Number {
     pub neg: bool,

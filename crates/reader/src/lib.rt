@@ -1,6 +1,7 @@
 // The reader of gate records: it takes each field's answer apart, and leaves at the first field that is not there as listed.
 ghost use mathlib.Core.Path.{_≡_};
-ghost use Rattle.book.specs.Records.{readOf, readRecord};
+ghost use Rattle.book.specs.Answers.{orDenied};
+ghost use Rattle.book.specs.Records.{readSays, readRecord};
 use book::Read;
 use book::Record;
 use book::Refusal;
@@ -11,7 +12,7 @@ use shapes::Made;
 
 // Fields 01 to 04, and then by code.
 pub fn read_record(bytes: &[u8]) -> Read
-    ensures { λ r. ⌜ r ≡ readOf (readRecord (now (bytes .entry))) ⌝ }
+    ensures { λ r. ⌜ readSays r ≡ orDenied 8 (readRecord (now (bytes .entry))) ⌝ }
 {
     let Field::Number(session, at_number) = number_field(bytes, 0, 0x01, 4) else {
         return Read::Refused(Refusal::Record);

@@ -6,8 +6,9 @@ use mathlib.Core.Option.{some}
 use mathlib.Core.Path.{_≡_}
 use lib.Ieee.{Float}
 use lib.ListN.{length}
+use Rattle.book.specs.Answers.{orDenied}
 use Rattle.book.specs.Gates.{angleOf, anglesOf, noiseOf}
-use Rattle.book.specs.Records.{partsOf, writeRecord, mostBytes, wroteOf, leftBy, readRecord, readOf}
+use Rattle.book.specs.Records.{partsOf, writeRecord, mostBytes, writtenSays, wroteOf, leftBy, readRecord, readSays}
 use Rattle.book.specs.declared.Angles.{Angles}
 use Rattle.book.specs.declared.Controls.{Controls}
 use Rattle.book.specs.declared.Gate.the-variants.{U}
@@ -76,10 +77,10 @@ UHasMost = (s k t : ℕ) (c : Controls) (g : Angles) → length (writeRecord (re
 
 -- two answers that the reader's contract allows are the same
 abbrev pub ReadersAgree : Type 0
-ReadersAgree = (bs : List ℕ) (a b : Read) → a ≡ readOf (readRecord bs) → b ≡ readOf (readRecord bs) → a ≡ b
+ReadersAgree = (bs : List ℕ) (a b : Read) → readSays a ≡ orDenied 8 (readRecord bs) → readSays b ≡ orDenied 8 (readRecord bs) → a ≡ b
 
 -- two answers that the writer's contract allows are the same, and so is what they leave
 abbrev pub WritersAgree : Type 0
 WritersAgree =
     (r : Record) (out : List ℕ) (a b : Written) (left other : List ℕ)
-    → a ≡ wroteOf r out → left ≡ leftBy r out → b ≡ wroteOf r out → other ≡ leftBy r out → (a ≡ b) × (left ≡ other)
+    → writtenSays a ≡ wroteOf r out → left ≡ leftBy r out → writtenSays b ≡ wroteOf r out → other ≡ leftBy r out → (a ≡ b) × (left ≡ other)

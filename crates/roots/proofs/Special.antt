@@ -15,10 +15,6 @@ use Rattle.numbers.specs.Fused.{root}
 use Rattle.operands.specs.Operands.{ordinary}
 use Rattle.operands.proofs.Floats.{some}
 
-pub nan-is : div binary64 (ofBits binary64 0) (ofBits binary64 0) ≡ nan
-unfolding div ofBits
-nan-is = refl
-
 pub root-negative : (f : Format) (x : Float) → lt x (fin false 0 (pos 0)) ≡ true → nan ≡ root f x
 unfolding lt root
 root-negative f nan h = absurd (true≢false (sym h))

@@ -106,7 +106,7 @@ pub fn root(x: f64) -> f64
         return 0.0 / 0.0;
     }
     if !operands::is_ordinary(x) {
-        return x;
+        return operands::with_one_nan(x);
     }
     let p = operands::unpack(x);
     let c = even_power(p.m, p.e);

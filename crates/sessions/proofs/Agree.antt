@@ -1,14 +1,17 @@
--- Any two results that a delivery's contract allows agree: what a reply says gives the reply back, and a session's meaning the session. Assumes nothing.
+-- Any two results that a start's or a delivery's contract allows agree: what is told of an answer gives it back, and a session's meaning the session.
+-- Assumes nothing.
 use Prim.Native.Nat.{ℕ}
 use mathlib.Core.Path.{_≡_, refl, sym, ap, ap₂, _∙_}
-use Rattle.book.proofs.Agree.{refusalOf, refusal-back}
-use Rattle.book.specs.Answers.{taken, value, refused, Replied, again, said, replies, Buffers}
+use Rattle.book.proofs.Agree.{agree, refusalOf, refusal-back}
+use Rattle.book.specs.Answers.{taken, value, refused, Replied, again, said, replies, Gives, gives, denied, Buffers}
 use Rattle.book.specs.Sessions as Book
 use Rattle.book.specs.declared.Reply.{Reply}
 use Rattle.book.specs.declared.Reply.the-variants.{Taken, Value, Again, Refused}
-use Rattle.sessions.specs.Deliveries.{resumed, Delivers}
+use Rattle.sessions.specs.Deliveries.{resumed, startedSays, Delivers}
 use Rattle.sessions.specs.declared.Delivered.{Delivered}
 use Rattle.sessions.specs.declared.Session.{Session}
+use Rattle.sessions.specs.declared.Started.{Started}
+use Rattle.sessions.specs.declared.Started.the-variants.{Fresh, Refused as Unstarted}
 
 abbrev replyOf : Replied → Reply
 replyOf again = Again
@@ -25,6 +28,19 @@ reply-back (Refused r) = ap Refused (refusal-back r)
 abbrev sessionOf : Book.Session → Session
 sessionOf s = resumed (s .n) (s .number) (s .count)
 
+abbrev startedBy : Gives Book.Session → Started
+startedBy (gives s) = Fresh (sessionOf s)
+startedBy (denied k) = Unstarted (refusalOf k)
+
+started-back : (x : Started) → startedBy (startedSays x) ≡ x
+started-back (Fresh s) = refl
+started-back (Unstarted x) = ap Unstarted (refusal-back x)
+
+-- a start
+pub starts-agree : {g : Gives Book.Session} {a a′ : Started} → startedSays a ≡ g → startedSays a′ ≡ g → a ≡ a′
+starts-agree = agree startedSays startedBy started-back
+
+-- a delivery
 pub delivers-agree : {d : Book.Delivery} {a a′ : Delivered} {b b′ : Buffers} → Delivers d a b → Delivers d a′ b′ → (a ≡ a′) × (b ≡ b′)
 delivers-agree {a = a} {a′ = a′} x y = (
   ap₂ (λ (s : Session) (r : Reply). made s r (a .count)) next reply ∙ ap (made (a′ .next) (a′ .reply)) (x .count ∙ sym (y .count)),
@@ -38,4 +54,4 @@ delivers-agree {a = a} {a′ = a′} x y = (
     next = ap sessionOf (x .next ∙ sym (y .next))
 
     reply : a .reply ≡ a′ .reply
-    reply = sym (reply-back (a .reply)) ∙ ap replyOf (x .reply ∙ sym (y .reply)) ∙ reply-back (a′ .reply)
+    reply = agree replies replyOf reply-back (x .reply) (y .reply)

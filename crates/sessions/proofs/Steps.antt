@@ -1,41 +1,29 @@
 -- A delivery in the code's terms: by what was read, and by where the record stands. 1 and 2 stand before all else, and the gate's own tests begin with
 -- them, so the next record's gate decides by itself. Assumes nothing.
-use Prim.Native.Nat.{ℕ, zero, suc}
-use mathlib.Core.Bool.{false}
+use Prim.Native.Nat.{ℕ, zero, suc, _+_}
+use mathlib.Core.Bool.{Bool, true, false, cond}
 use mathlib.Core.List.{List}
-use mathlib.Core.Option.{Option, some, none}
-use mathlib.Core.Path.{_≡_, refl, sym, ap, _∙_, subst}
+use mathlib.Core.Option.{some, none}
+use mathlib.Core.Path.{_≡_, refl, sym, ap, ap₂, _∙_}
 use native.Mathlib.Omega.{arith}
 use Rattle.book.proofs.Calls.{refused-keeps, sized-right, sized-wrong}
 use Rattle.book.proofs.Refusals.{sizes-numbered}
-use Rattle.book.specs.Answers.{numberOf, value, refused, says, Replied, said, replies, Test, first, Buffers, Outcome, accepts, Does}
+use Rattle.book.specs.Answers.{Said, refused, Replied, said, replies, first, Buffers, Outcome, accepts, Does}
 use Rattle.book.specs.Calls.{callOf, act}
 use Rattle.book.specs.Kernels.{sizeTests}
-use Rattle.book.specs.Records.{readRecord, readOf}
+use Rattle.book.specs.Records.{readRecord}
 use Rattle.book.specs.Sessions as Book
-use Rattle.book.specs.Sessions.{kept, counted, standing, takeRecord, takeRead, takeSized, deliver}
+use Rattle.book.specs.Sessions.{raised, kept, counted, standing, takeRecord, takeRead, takeSized, deliver}
 use Rattle.book.specs.declared.Answer.{Answer}
-use Rattle.book.specs.declared.Answer.the-variants.{Taken, Value, Refused}
-use Rattle.book.specs.declared.Read.the-variants.{Record as Found, Refused as Unread}
 use Rattle.book.specs.declared.Record.{Record}
 use Rattle.book.specs.declared.Refusal.{Refusal}
 use Rattle.book.specs.declared.Reply.{Reply}
-use Rattle.book.specs.declared.Reply.the-variants.{Refused as Refused′}
-use Rattle.judging.proofs.Judged.{passed}
 use Rattle.judging.specs.Judging.{verdict, Judges}
-use Rattle.sessions.specs.Deliveries.{meant, told, countedOf, behindSize, unsized, Delivers}
+use Rattle.standing.specs.Stands.{Counts, behind, Passes}
+use Rattle.standing.specs.declared.Counted.{Counted}
+use Rattle.sessions.specs.Deliveries.{meant, resumed, told, unsized, Delivers}
 use Rattle.sessions.specs.declared.Delivered.{Delivered}
 use Rattle.sessions.specs.declared.Session.{Session}
-
--- ---- which of the two was read
-
-pub found-is : {r : Record} (o : Option Record) → readOf o ≡ Found r → o ≡ some r
-found-is (some q) e = cc
-found-is none e = let z : _≡_ {A = ℕ} 0 1 = cc in absurd (omega arith)
-
-pub unread-is : {q : Refusal} (o : Option Record) → readOf o ≡ Unread q → o ≡ none
-unread-is (some r) e = let z : _≡_ {A = ℕ} 0 1 = cc in absurd (omega arith)
-unread-is none e = refl
 
 -- ---- the definition's delivery, in three cases
 
@@ -45,7 +33,7 @@ module _ (s : Book.Session) (b : Buffers) (bytes : List ℕ) where
   unfolding deliver
   stays x e = by (first (sizeTests (s .n) b))
     where
-      by : (k : ℕ) → takeSized s b bytes k ≡ kept s b (behindSize k x)
+      by : (k : ℕ) → takeSized s b bytes k ≡ kept s b (behind (verdict k) x)
       by zero = e
       by (suc k) = refl
 
@@ -68,41 +56,33 @@ module _ (s : Book.Session) (b : Buffers) (bytes : List ℕ) where
         by (suc k) z = sym (ap (counted s b bytes) (sized-wrong b (callOf (s .n) (r .gate) b) (sizeTests (s .n) b) z))
 
 -- ---- the code's answers
+-- Each part of a contract is found by `search`, here and for `deliver`: a part that asks less is proved too, and is missed by who goes by it.
 
--- a verdict is no value
-pub never : {v : ℕ} {ts : List Test} {r : Answer} → Judges ts r → r ≡ Value v → ⊥
-never {v} {ts} j t = by (first ts) (ap says (sym t) ∙ j .is)
-  where
-    by : (k : ℕ) → value v ≡ verdict k → ⊥
-    by zero f = let z : _≡_ {A = ℕ} 0 1 = cc in omega arith
-    by (suc k) f = let z : _≡_ {A = ℕ} 0 1 = cc in omega arith
+pub by-is : {d d′ : Book.Delivery} {a : Delivered} {b : Buffers} → d′ ≡ d → Delivers d a b → Delivers d′ a b
+by-is e h = rw e h
 
-module _ (s : Session) (b : Buffers) {a : Delivered} where
-  module _ (x : Reply) {r : Answer} (j : Judges (sizeTests (s .n) b) r) where
-    -- 1 or 2 refused
-    pub small : {q : Refusal} → r ≡ Refused q → a ≡ told s (Refused′ q) → Delivers (unsized (meant s) b (replies x)) a b
-    small {q} t e = rw e (by (first (sizeTests (s .n) b)) (ap says (sym t) ∙ j .is))
-      where
-        by : (k : ℕ) → refused (numberOf q) ≡ verdict k → Delivers (kept (meant s) b (behindSize k (replies x))) (told s (Refused′ q)) b
-        by zero f = absurd (let z : _≡_ {A = ℕ} 0 1 = cc in omega arith)
-        by (suc k) f = record { next = refl; reply = ap said f; count = refl; leaves = refl }
+module _ (s : Session) (b : Buffers) {a : Delivered} {k : Counted} (e : a ≡ told s k) where
+  counts-are : {count : ℕ} → k .count ≡ count → meant (resumed (s .n) (s .number) (k .count)) ≡ Book.session (s .n) (s .number) count
+  counts-are c = ap (Book.session (s .n) (s .number)) c
 
-    -- neither did
-    pub fine : r ≡ Taken → a ≡ told s x → Delivers (unsized (meant s) b (replies x)) a b
-    fine t e =
-        rw e (subst (λ (k : ℕ). Delivers (kept (meant s) b (behindSize k (replies x))) (told s x) b) (sym (passed j t))
-        (record { next = refl; reply = refl; count = refl; leaves = refl }))
+  -- the record was not run
+  pub passes : {x : Reply} {size : Answer} → Judges (sizeTests (s .n) b) size → Passes (s .count) size x k → Delivers (unsized (meant s) b (replies x)) a b
+  passes {x} j p =
+      let reply = p .reply ∙ ap (λ (y : Said). behind y (replies x)) (j .is) in
+      rw e (record { next = search (counts-are (p .counts)); reply = search reply; count = search (p .counts); leaves = refl })
 
-  -- the gate was run
-  pub ran : (bytes : List ℕ) (r : Record) {b′ : Buffers} {answer : Answer} → Does (act (s .n) (r .gate) b) answer b′
-      → a ≡ countedOf s answer → Delivers (counted (meant s) b bytes (act (s .n) (r .gate) b)) a b′
-  ran bytes r {b′} {answer} d e =
-      by answer (act (s .n) (r .gate) b) (refused-keeps b (callOf (s .n) (r .gate) b) (sizeTests (s .n) b)) d e
+  -- its gate was run
+  pub ran : (bytes : List ℕ) (r : Record) {b′ : Buffers} {answer : Answer} {next : ℕ} → Does (act (s .n) (r .gate) b) answer b′ → next ≡ s .count + 1
+      → Counts (s .count) next answer k → Delivers (counted (meant s) b bytes (act (s .n) (r .gate) b)) a b′
+  ran bytes r {b′} {answer} {next} d one c =
+      let o = act (s .n) (r .gate) b in
+      let counts : k .count ≡ cond (accepts (o .says)) (s .count + 1) (s .count) =
+      c .counts ∙ ap₂ (λ (x : Said) (j : ℕ). cond (accepts x) j (s .count)) (d .answers) one in
+      rw e (by (accepts (o .says)) o (refused-keeps b (callOf (s .n) (r .gate) b) (sizeTests (s .n) b)) counts (c .reply ∙ ap said (d .answers)) (d .leaves))
     where
-      by : (answer : Answer) (o : Outcome) → (accepts (o .says) ≡ false → o .left ≡ b) → Does o answer b′ → a ≡ countedOf s answer
-          → Delivers (counted (meant s) b bytes o) a b′
-      by Taken o k d e = rw (e, ← d .answers) (record { next = refl; reply = refl; count = refl; leaves = d .leaves })
-      by (Value v) o k d e = rw (e, ← d .answers) (record { next = refl; reply = refl; count = refl; leaves = d .leaves })
-      by (Refused q) o k d e =
-          let same : b′ ≡ b = d .leaves ∙ k (ap accepts (sym (d .answers))) in
-          rw (e, ← d .answers) (record { next = refl; reply = refl; count = refl; leaves = same })
+      by : (t : Bool) (o : Outcome) → (t ≡ false → o .left ≡ b) → k .count ≡ cond t (s .count + 1) (s .count) → replies (k .reply) ≡ said (o .says)
+          → b′ ≡ o .left
+          → let taken : Book.Delivery = record { next = raised (meant s) bytes; says = said (o .says); left = o .left } in
+          Delivers (cond t taken (kept (meant s) b (said (o .says)))) (told s k) b′
+      by true o keeps c x l = record { next = search (counts-are c); reply = search; count = search; leaves = search }
+      by false o keeps c x l = record { next = search (counts-are c); reply = search; count = search; leaves = search (l ∙ keeps refl) }

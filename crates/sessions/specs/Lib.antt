@@ -1,3 +1,2 @@
--- What the types of a session mean, the contract of a delivery, and demand 3 of the code.
+-- What the types of a session mean, and the contract of a delivery.
 pub mod Deliveries
-pub mod ExactlyOnce

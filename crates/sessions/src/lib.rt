@@ -1,19 +1,20 @@
 // Sessions: each delivery takes the session and hands back the next one, with the answer. However often a record comes, it is run once.
 use act::act;
-use book::Answer;
 use book::MOST_QUBITS;
 use book::Read;
 use book::Refusal;
 use book::Reply;
+use once::next_size;
+use standing::Counted;
 use standing::Standing;
 use standing::stand;
 ghost use mathlib.Core.Path.{_≡_};
-ghost use Prim.Native.Nat.{_<_};
-ghost use Rattle.book.specs.Answers.{replies};
+ghost use Rattle.book.specs.Answers.{replies, orDenied};
 ghost use Rattle.book.specs.Lent.{before, after};
 ghost use Rattle.book.specs.Sessions.{deliver};
 ghost use Rattle.book.specs.Sessions as Book;
-ghost use Rattle.sessions.specs.Deliveries.{meant, started, resumed, told, raised, countedOf, unsized, Delivers};
+ghost use Rattle.once.specs.AllOnce.{cut, AllOnce};
+ghost use Rattle.sessions.specs.Deliveries.{meant, startedSays, resumed, told, unsized, Delivers};
 
 // n qubits, the session's number, and the count of records taken.
 pub struct Session {
@@ -44,7 +45,7 @@ impl Session {
     }
 
     pub fn start(n: u32, number: u32) -> Started
-        ensures { λ r. ⌜ r ≡ started (Book.start n number) ⌝ }
+        ensures { λ r. ⌜ startedSays r ≡ orDenied 1 (Book.start n number) ⌝ }
     {
         if n < 1 {
             return Started::Refused(Refusal::Size);
@@ -55,48 +56,22 @@ impl Session {
         Started::Fresh(Session::resume(n, number, 0))
     }
 
-    // An answer carries the count after it.
-    fn kept(self, reply: Reply) -> Delivered
-        ensures { λ r. ⌜ r ≡ told self reply ⌝ }
+    // The next session, and the answer, which carries the count after it.
+    fn told(self, counted: Counted) -> Delivered
+        ensures { λ r. ⌜ r ≡ told self counted ⌝ }
     {
-        let count = self.count;
-        Delivered {
-            next: self,
-            reply,
-            count,
-        }
-    }
-
-    // A gate that was taken raises the count.
-    fn raised(self, reply: Reply) -> Delivered
-        requires { ⌜ self .count < 65535 ⌝ }
-        ensures { λ r. ⌜ r ≡ told (raised self) reply ⌝ }
-    {
-        let next = Session::resume(self.n, self.number, self.count + 1);
-        next.kept(reply)
-    }
-
-    // What the gate's answer makes of the session.
-    fn counted(self, answer: Answer) -> Delivered
-        requires { ⌜ self .count < 65535 ⌝ }
-        ensures { λ r. ⌜ r ≡ countedOf self answer ⌝ }
-    {
-        match answer {
-            Answer::Taken => self.raised(Reply::Taken),
-            Answer::Value(v) => self.raised(Reply::Value(v)),
-            Answer::Refused(refusal) => self.kept(Reply::Refused(refusal)),
-        }
+        let count = counted.count;
+        let reply = counted.reply;
+        let next = Session::resume(self.n, self.number, count);
+        Delivered { next, reply, count }
     }
 
     // A record that is not run: 1 and 2 come before its reply.
     fn passed(self, reply: Reply, reals: &[f64], imags: &[f64]) -> Delivered
         ensures { λ r. ⌜ Delivers (unsized (meant self) (before reals imags) (replies reply)) r (before reals imags) ⌝ }
     {
-        match judging::size(reals, imags, self.n) {
-            Answer::Taken => self.kept(reply),
-            Answer::Value(_) => self.kept(reply),
-            Answer::Refused(wrong) => self.kept(Reply::Refused(wrong)),
-        }
+        let size = judging::size(reals, imags, self.n);
+        self.told(standing::passed(self.count, size, reply))
     }
 
     // Only the next record goes on to its gate, whose own tests begin with 1 and 2: so a delivery is judged once.
@@ -107,12 +82,36 @@ impl Session {
             return self.passed(Reply::Refused(Refusal::Record), reals, imags);
         };
         match stand(self.number, self.count, it) {
-            Standing::Next => {
+            Standing::Next(next) => {
                 let gate = it.gate;
                 let answer = act(self.n, gate, reals, imags);
-                self.counted(answer)
+                self.told(standing::ran(self.count, next, answer))
             }
             Standing::Answered(reply) => self.passed(reply, reals, imags),
         }
+    }
+
+    // Deliveries one after the other, which lie so in `bytes`; `lengths` says how many bytes each takes. Whatever comes, each record is run once.
+    pub fn deliver_all(
+        self,
+        bytes: &[u8],
+        lengths: &[usize],
+        reals: &mut [f64],
+        imags: &mut [f64],
+    ) -> Session
+        ensures { λ r. ⌜ AllOnce (meant self) (before reals imags) (cut (now (bytes .entry)) (now (lengths .entry))) (meant r) (after reals imags) ⌝ }
+    {
+        let mut session = self;
+        let mut at: usize = 0;
+        let mut i: usize = 0;
+        while i < lengths.len() {
+            let size = next_size(lengths[i], bytes.len() - at);
+            let end = at + size;
+            let delivered = session.deliver(&bytes[at..end], reals, imags);
+            session = delivered.next;
+            at = end;
+            i += 1;
+        }
+        session
     }
 }

@@ -1,2 +1,2 @@
--- What a standing means.
+-- What a standing means, and what is answered.
 pub mod Stands

@@ -2,15 +2,13 @@
 use book::Angle;
 use book::Answer;
 use book::Controls;
-use fed::Fed;
-use fed::Upper;
-use fed::feed_upper;
+use fed::Z;
 use halves::turn_half;
 ghost use mathlib.Core.Path.{_≡_};
 ghost use Rattle.book.specs.Answers.{Does};
 ghost use Rattle.book.specs.Lent.{before, after, here};
 ghost use Rattle.book.specs.State.{onPairs};
-ghost use Rattle.fed.specs.Named.{loopUpper, upperGate};
+ghost use Rattle.fed.specs.Named.{upperRule, upperGate};
 ghost use Rattle.halves.specs.Halves.{turnedAt};
 ghost use Rattle.judging.specs.Judging.{Seated};
 ghost use Rattle.pairs.specs.Pairs.{UppersTurned};
@@ -70,38 +68,48 @@ fn by_target(
 
 // The chosen places are those that have all ones of the controls: these are fixed, and nothing is taken back.
 // Without controls Z has a loop for each of the lowest targets.
-fn turn(reals: &mut [f64], imags: &mut [f64], n: u32, target: u32, controls: Controls, fed: Fed)
+fn turn(
+    reals: &mut [f64],
+    imags: &mut [f64],
+    n: u32,
+    target: u32,
+    controls: Controls,
+    upper: u32,
+    angle: Angle,
+)
     requires { ⌜ Seated n target controls (here reals imags) ⌝ }
-    ensures { λ _. ⌜ after reals imags ≡ onPairs (loopUpper (fed .number) (fed .angle)) n target controls (before reals imags) ⌝ }
+    ensures { λ _. ⌜ after reals imags ≡ onPairs (upperRule upper angle) n target controls (before reals imags) ⌝ }
 {
     let fixed = controls.ones as usize;
-    let number = fed.number;
-    let angle = fed.angle;
     if fixed == 0 {
-        if number == 0 {
-            by_target(reals, imags, n, target, fixed, 0, number, angle);
+        if upper == Z {
+            by_target(reals, imags, n, target, fixed, 0, upper, angle);
             return;
         }
     }
-    turn_blocks(reals, imags, n, target, fixed, 0, number, angle);
+    turn_blocks(reals, imags, n, target, fixed, 0, upper, angle);
 }
 
-// A gate that leaves s0 as it is, from what it is fed: judged once, then turned block by block.
+// A gate that leaves s0 as it is, from its number and what it is fed: judged once, then turned block by block.
+// The arms are one call here too: so the judging is small enough for the compiler to set it into Z and into P.
 pub fn on_uppers(
     reals: &mut [f64],
     imags: &mut [f64],
     n: u32,
     target: u32,
     controls: Controls,
-    upper: Upper,
+    upper: u32,
+    angle: Angle,
 ) -> Answer
-    ensures { λ r. ⌜ Does (upperGate upper n target controls (before reals imags)) r (after reals imags) ⌝ }
+    ensures { λ r. ⌜ Does (upperGate upper angle n target controls (before reals imags)) r (after reals imags) ⌝ }
 {
     let seat = judging::seat(reals, imags, n, target, controls, fed::most_of_upper(upper));
-    let answer = judging::then(seat, fed::own_of_upper(upper));
+    let answer = judging::then(seat, fed::own_of_upper(upper, angle));
     if let Answer::Taken = answer {
-        let fed = feed_upper(upper);
-        turn(reals, imags, n, target, controls, fed);
+        match upper {
+            0 => turn(reals, imags, n, target, controls, upper, angle),
+            _ => turn(reals, imags, n, target, controls, upper, angle),
+        }
     }
     answer
 }

@@ -7,11 +7,10 @@ use mathlib.Core.Path.{_≡_, refl, sym, ap, _∙_}
 use lib.Dec.{ltb}
 use lib.ListN.{length, length-append}
 use borrow.Author.Tests.{lt-ltb, le-ltb}
+use Rattle.book.specs.Answers.{gives, denied}
 use Rattle.book.specs.Records.{partsOf, fieldsOf, writeRecord, wroteOf, leftBy}
 use Rattle.book.specs.declared.Parts.{Parts}
 use Rattle.book.specs.declared.Record.{Record}
-use Rattle.book.specs.declared.Refusal.the-variants.{Room}
-use Rattle.book.specs.declared.Written.the-variants.{Bytes, Refused as Unwritten}
 use Rattle.stores.proofs.Stored.{stored-then, store-first}
 use Rattle.stores.specs.Stores.{Stored}
 use Rattle.writer.specs.Heads.{headOf}
@@ -27,16 +26,16 @@ module _ (r : Record) (out : List ℕ) (p : Parts) (e : p ≡ partsOf (r .gate))
   size-is : length (writeRecord r) ≡ n
   size-is = omega (arith, ap length whole, length-append (headOf (r .session) (r .number) (p .code) (p .target)) (fieldsOf (p .shape)))
 
-  pub no-room : length out < n → (Unwritten Room ≡ wroteOf r out) × (out ≡ leftBy r out)
+  pub no-room : length out < n → (denied 12 ≡ wroteOf r out) × (out ≡ leftBy r out)
   no-room h =
       let less : ltb (length out) (length (writeRecord r)) ≡ true = lt-ltb (length out) (length (writeRecord r)) (omega (arith, size-is)) in
       (rw less, rw less)
 
   pub wrote : (out₁ out₂ : List ℕ) (at m : ℕ) → n ≤ length out
       → Stored (headOf (r .session) (r .number) (p .code) (p .target)) out 0 at out₁ → Stored (fieldsOf (p .shape)) out₁ at m out₂
-      → (Bytes m ≡ wroteOf r out) × (out₂ ≡ leftBy r out)
+      → (gives m ≡ wroteOf r out) × (out₂ ≡ leftBy r out)
   wrote out₁ out₂ at m h q₁ q₂ =
       let enough : ltb (length out) (length (writeRecord r)) ≡ false = le-ltb (length out) (length (writeRecord r)) (omega (arith, size-is)) in
       let all : Stored (writeRecord r) out 0 m out₂ = rw (sym whole) at (stored-then q₁ q₂) in
       let many : m ≡ length (writeRecord r) = omega (arith, all .behind) in
-      (rw enough (ap Bytes many), rw enough (all .stored ∙ store-first out (writeRecord r) (omega (arith, size-is))))
+      (rw enough (ap gives many), rw enough (all .stored ∙ store-first out (writeRecord r) (omega (arith, size-is))))

@@ -2,7 +2,7 @@
 ghost use mathlib.Core.Path.{_≡_};
 ghost use Prim.Native.Nat.{_≤_};
 ghost use lib.ListN.{length};
-ghost use Rattle.book.specs.Records.{wroteOf, leftBy};
+ghost use Rattle.book.specs.Records.{writtenSays, wroteOf, leftBy};
 ghost use Rattle.stores.specs.Stores.{Stored};
 ghost use Rattle.writer.specs.Heads.{headOf};
 
@@ -28,7 +28,7 @@ fn store_head(out: &mut [u8], session: u32, number: u16, code: u8, target: u8) -
 }
 
 pub fn write_record(it: Record, out: &mut [u8]) -> Written
-    ensures answers { λ r. ⌜ r ≡ wroteOf it (now (out .entry)) ⌝ }
+    ensures answers { λ r. ⌜ writtenSays r ≡ wroteOf it (now (out .entry)) ⌝ }
     ensures leaves { λ r. ⌜ now (out .exit) ≡ leftBy it (now (out .entry)) ⌝ }
 {
     let gate = it.gate;

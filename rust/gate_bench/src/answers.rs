@@ -1,7 +1,10 @@
 //! The archive's one number as an answer: 0 taken, 1 to 255 a refusal, 256 AGAIN, 768 + v a value.
+use std::error::Error;
+use std::fmt;
 
-/// Why a call did nothing, in the order of the rule book's table.
-#[derive(Clone, Copy, Debug, PartialEq, Eq)]
+/// Why a call did nothing, in the order of the rule book's table. Later versions have more of them.
+#[derive(Clone, Copy, Debug, PartialEq, Eq, Hash)]
+#[non_exhaustive]
 pub enum Refusal {
     /// n is out of range.
     Size,
@@ -50,7 +53,54 @@ impl Refusal {
             Refusal::Unknown(number) => number,
         }
     }
+
+    /// The rule book's word.
+    fn word(self) -> &'static str {
+        match self {
+            Refusal::Size => "SIZE",
+            Refusal::Length => "LENGTH",
+            Refusal::Qubit => "QUBIT",
+            Refusal::Same => "SAME",
+            Refusal::Form => "FORM",
+            Refusal::Number => "NUMBER",
+            Refusal::Chance => "CHANCE",
+            Refusal::Record => "RECORD",
+            Refusal::Session => "SESSION",
+            Refusal::Early => "EARLY",
+            Refusal::Full => "FULL",
+            Refusal::Room => "ROOM",
+            Refusal::Unknown(_) => "UNKNOWN",
+        }
+    }
+
+    /// When it is given, in the rule book's words.
+    fn reason(self) -> &'static str {
+        match self {
+            Refusal::Size => "n is out of range",
+            Refusal::Length => "a buffer is not of exactly the length n asks",
+            Refusal::Qubit => "target, second qubit or a bit of the mask is n or more",
+            Refusal::Same => "the target is a control",
+            Refusal::Form => "more controls than this gate takes",
+            Refusal::Number => "a supplied number is NaN or infinite, or outcome or reset is neither 0 nor 1",
+            Refusal::Chance => "the forced outcome's probability is NaN, infinite, zero or negative",
+            Refusal::Record => "the bytes are not a record",
+            Refusal::Session => "the record's session is another",
+            Refusal::Early => "the record's number is above the count",
+            Refusal::Full => "the record's number is 65,535",
+            Refusal::Room => "the writer's buffer is too short",
+            Refusal::Unknown(_) => "the archive is a later one than this crate",
+        }
+    }
 }
+
+/// As the table has it: `7 CHANCE: the forced outcome's probability is NaN, infinite, zero or negative`.
+impl fmt::Display for Refusal {
+    fn fmt(&self, f: &mut fmt::Formatter<'_>) -> fmt::Result {
+        write!(f, "{} {}: {}", self.number(), self.word(), self.reason())
+    }
+}
+
+impl Error for Refusal {}
 
 /// What a kernel, a measurement or a matrix call answers.
 #[derive(Clone, Copy, Debug, PartialEq, Eq)]

@@ -2,10 +2,42 @@
 //!
 //! Every call takes any numbers and any bytes, and ends. A refusal changes nothing. What each call answers and leaves is proved
 //! in the repository's crates; this crate only passes slices on and names the answers.
+//!
+//! A modem that got no answer sends a record again, and it is run once:
+//!
+//! ```
+//! use gate_bench::{environment_is_default, write_record, Gate, Record, Refusal, Reply, Session, RECORD_MOST};
+//!
+//! fn main() -> Result<(), Refusal> {
+//!     assert!(environment_is_default());
+//!     let mut session = Session::start(1, 7)?;
+//!     let (mut reals, mut imags) = ([1.0, 0.0], [0.0, 0.0]);
+//!
+//!     let mut bytes = [0; RECORD_MOST];
+//!     let size = write_record(&Record { session: 7, number: 0, gate: Gate::X(0, 0) }, &mut bytes)?;
+//!     let x = &bytes[..size];
+//!     assert_eq!(session.deliver(x, &mut reals, &mut imags), Reply::Taken);
+//!     assert_eq!(session.deliver(x, &mut reals, &mut imags), Reply::Again);
+//!     assert_eq!((session.count(), reals), (1, [0.0, 1.0]));
+//!
+//!     // Saved as three numbers beside the buffers, and resumed: the record is still known.
+//!     let mut later = Session::resume(session.n(), session.number(), session.count())?;
+//!     assert_eq!(later.deliver(x, &mut reals, &mut imags), Reply::Again);
+//!
+//!     let refused = Session::start(25, 7).unwrap_err();
+//!     assert_eq!(refused.to_string(), "1 SIZE: n is out of range");
+//!     Ok(())
+//! }
+//! ```
+//!
+//! What this crate cannot see to: the thread that calls has the processor's floating-point settings as a program starts with
+//! them, rounding to nearest and with subnormals. A C part that was linked with `-ffast-math`, or that changed the rounding
+//! direction, may have changed them, and then results differ: [`environment_is_default`] tells.
 #![deny(unsafe_code)]
 #![deny(unsafe_op_in_unsafe_fn)]
 
 mod answers;
+mod environment;
 #[allow(unsafe_code)]
 #[rustfmt::skip]
 mod ffi;
@@ -15,6 +47,7 @@ mod records;
 mod sessions;
 
 pub use answers::{Answer, Refusal, Reply};
+pub use environment::environment_is_default;
 pub use gates::{
     bit_flip_noise_apply, h_apply, measure_qubit, p_apply, rx_apply, ry_apply, rz_apply, swap_apply, u_apply, x_apply, y_apply, z_apply, Angle, Angles, Forced,
     Noise,
@@ -23,7 +56,7 @@ pub use matrices::{apply_unitary, conj_t, from_single_qubit_gate, multiply, Ampl
 pub use records::{read_record, write_record, Gate, Record, RECORD_MOST};
 pub use sessions::Session;
 
-/// F: x·y + z, rounded once.
+/// F: x·y + z, rounded once. Where it is a NaN, its bits are 7FF8000000000000; so are the root's.
 pub fn fused(x: f64, y: f64, z: f64) -> f64 {
     ffi::fused(x, y, z)
 }

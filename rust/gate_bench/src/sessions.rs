@@ -3,7 +3,9 @@ use crate::answers::{refusal, Refusal, Reply};
 use crate::ffi;
 
 /// n qubits, the session's number, and the count of records taken. The state stands in the caller's buffers.
-#[derive(Debug)]
+///
+/// Its three numbers are all of it: kept beside the buffers they resume it, in this process or a later one.
+#[derive(Debug, PartialEq, Eq)]
 pub struct Session {
     n: u32,
     number: u32,
@@ -17,6 +19,11 @@ impl Session {
             Some(refused) => Err(refused),
             None => Ok(Session { n, number, count: 0 }),
         }
+    }
+
+    /// A session as it was saved: `n()`, `number()` and `count()` of then, beside the buffers as they were then.
+    pub fn resume(n: u32, number: u32, count: u16) -> Result<Session, Refusal> {
+        Ok(Session { count, ..Session::start(n, number)? })
     }
 
     /// One delivery: the bytes are read as a record and, if its number is the count, run on the state.

@@ -188,3 +188,84 @@ fn calls_and_deliveries_agree() {
         assert_eq!(called == start, matches!(answer, Answer::Refused(_)), "{gate:?}");
     }
 }
+
+#[test]
+fn refusals_say_the_tables_words() {
+    let table = include_str!("../../../README.md");
+    let row = |number: u8| {
+        let row = table.lines().find(|line| line.starts_with(&format!("| {number} "))).expect("the README has the table");
+        row.trim_matches(['|', ' ']).replacen(" | ", ": ", 1)
+    };
+    let refusals = [
+        Refusal::Size,
+        Refusal::Length,
+        Refusal::Qubit,
+        Refusal::Same,
+        Refusal::Form,
+        Refusal::Number,
+        Refusal::Chance,
+        Refusal::Record,
+        Refusal::Session,
+        Refusal::Early,
+        Refusal::Full,
+        Refusal::Room,
+    ];
+    for refusal in refusals {
+        let error: Box<dyn std::error::Error> = Box::new(refusal);
+        assert_eq!(error.to_string(), row(refusal.number()));
+    }
+}
+
+#[test]
+fn sessions_are_resumed() {
+    let (mut reals, mut imags) = ([1.0, 0.0], [0.0; 2]);
+    let mut session = Session::start(1, 7).expect("one qubit");
+    session.deliver(&x_numbered(0), &mut reals, &mut imags);
+    let mut later = Session::resume(session.n(), session.number(), session.count()).expect("one qubit");
+    assert_eq!(later, session);
+    assert_eq!(later.deliver(&x_numbered(0), &mut reals, &mut imags), Reply::Again);
+    assert_eq!(later.deliver(&x_numbered(1), &mut reals, &mut imags), Reply::Taken);
+    assert_eq!((later.count(), bits(&reals)), (2, bits(&[1.0, 0.0])));
+    assert_eq!(Session::resume(0, 7, 3), Err(Refusal::Size));
+}
+
+#[test]
+fn the_processor_is_as_it_starts() {
+    assert!(environment_is_default());
+}
+
+/// Document 01: any NaN answer of F and of the root has these bits. A NaN operand, an infinity times zero, infinities of two signs.
+#[test]
+fn one_nan() {
+    const NAN: u64 = 0x7FF8000000000000;
+    let (infinite, other) = (f64::INFINITY, f64::from_bits(0xFFF4000000000001));
+    let cases = [
+        (other, 1.0, 1.0),
+        (1.0, other, 1.0),
+        (1.0, 1.0, other),
+        (other, 0.0, infinite),
+        (infinite, 0.0, 1.0),
+        (-0.0, -infinite, other),
+        (infinite, 1.0, -infinite),
+        (-2.0, infinite, infinite),
+        (f64::MAX, -infinite, infinite),
+    ];
+    for (x, y, z) in cases {
+        assert_eq!(fused(x, y, z).to_bits(), NAN, "F({x}, {y}, {z})");
+    }
+    for x in [other, -1.0, -infinite, -f64::from_bits(1)] {
+        assert_eq!(root(x).to_bits(), NAN, "root({x})");
+    }
+    // P, RZ and U leave what F gives.
+    let (k, g) = (Angle { cosine: 0.0, sine: 1.0 }, Angles { ct: 0.0, st: 1.0, cl: 0.0, sl: 1.0, cpl: 0.0, spl: 1.0, cp: 0.0, sp: 1.0 });
+    for x in [other, infinite, -infinite] {
+        let left = |gate: &dyn Fn(&mut [f64], &mut [f64]) -> Answer| {
+            let (mut reals, mut imags) = ([x; 2], [x; 2]);
+            assert_eq!(gate(&mut reals, &mut imags), Answer::Taken);
+            bits(&[reals, imags].concat())
+        };
+        assert_eq!(left(&|re, im| p_apply(re, im, 1, 0, 0, k))[1], NAN);
+        assert_eq!(left(&|re, im| rz_apply(re, im, 1, 0, 0, k)), [NAN; 4]);
+        assert_eq!(left(&|re, im| u_apply(re, im, 1, 0, 0, g)), [NAN; 4]);
+    }
+}

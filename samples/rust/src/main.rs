@@ -1,6 +1,6 @@
 //! Three qubits over a bad line, from Rust. Three records make a GHZ state; they arrive late, early, repeated and with junk
 //! between. Each is run once, in order, and the state is bit for bit what the records give when nothing goes wrong.
-use gate_bench::{write_record, Gate, Record, Reply, Session, RECORD_MOST};
+use gate_bench::{environment_is_default, write_record, Gate, Record, Reply, Session, RECORD_MOST};
 use std::process::ExitCode;
 
 const QUBITS: u32 = 3;
@@ -46,6 +46,10 @@ fn bytes(session: u32, number: u16, gate: Gate) -> Vec<u8> {
 }
 
 fn main() -> ExitCode {
+    if !environment_is_default() {
+        eprintln!("ghz: rounding or subnormals are not the processor's default: no bit can be compared");
+        return ExitCode::from(2);
+    }
     let h = bytes(OWN, 0, Gate::H(0, 0));
     let x1 = bytes(OWN, 1, Gate::X(1, 1));
     let x2 = bytes(OWN, 2, Gate::X(2, 2));

@@ -1,6 +1,7 @@
 -- `fed::own` meets its contract: no test, or test 6 of the numbers that the gate is fed. Assumes nothing.
-use Rattle.fed.proofs.Numbers.{none-judged}
 use borrow.Author.Needs.{needs}
+use borrow.Author.Tests.{le-leb, lt-leb}
+use Rattle.fed.proofs.Numbers.{none-judged}
 use Rattle.fed.proofs.own.Statement.{statement}
 use Rattle.fed.proofs.own.Tie as tie
 
@@ -8,22 +9,9 @@ pub own-spec : {M : Type 1} → statement M
 own-spec =
     tie.close
     (tie.spec
-    (λ c. search needs)
-    (λ c. search needs)
-    (λ c. search needs)
+    (λ c. rw (le-leb _ _ (c .if1 .taken)) none-judged)
+    (λ c κs. search needs)
+    (λ c. rw (lt-leb _ _ (c .before .before .if1 .left), le-leb _ _ (c .before .if2 .taken)) (c .judge-angle .ensures))
     (λ c. search needs)
     (λ c κs. search needs)
-    (λ c. search needs)
-    (λ c κs. search needs)
-    (λ c. search needs)
-    (λ c κs. search needs)
-    (λ c. search needs)
-    (λ c. search needs)
-    (λ c κs. search needs)
-    (λ c. rw (c .enum-told .given .1) none-judged)
-    (λ c. rw (c .enum-told2 .given .1) none-judged)
-    (λ c. rw (c .enum-told3 .given .1) none-judged)
-    (λ c. rw (c .before .before .rule .given .1) (c .judge-angle .ensures))
-    (λ c. rw (c .before .before .rule2 .given .1) (c .judge-angle2 .ensures))
-    (λ c. rw (c .before .before .rule3 .given .1) (c .judge-angle3 .ensures))
-    (λ c. rw (c .before .before .before .rule4 .given .1) (c .numbers .ensures)))
+    (λ c. let at = c .before .before in rw (lt-leb _ _ (at .before .if1 .left), lt-leb _ _ (at .if2 .left)) (c .numbers .ensures)))

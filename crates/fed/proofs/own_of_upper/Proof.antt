@@ -1,6 +1,6 @@
 -- `fed::own_of_upper` meets its contract: Z is fed no number, P an angle. Assumes nothing.
-use Rattle.fed.proofs.Numbers.{none-judged}
 use borrow.Author.Needs.{needs}
+use Rattle.fed.proofs.Numbers.{rest, none-judged}
 use Rattle.fed.proofs.own_of_upper.Statement.{statement}
 use Rattle.fed.proofs.own_of_upper.Tie as tie
 
@@ -8,8 +8,6 @@ pub own-of-upper-spec : {M : Type 1} → statement M
 own-of-upper-spec =
     tie.close
     (tie.spec
-    (λ c. search needs)
-    (λ c. search needs)
     (λ c κs. search needs)
-    (λ c. rw (c .enum-told .given .1) none-judged)
-    (λ c. rw (c .before .before .upper .given .1) (c .judge-angle .ensures)))
+    (λ c. rw (c .match .keys1) none-judged)
+    (λ c. rw (rest _ (c .before .match .rest .1) .1) (c .judge-angle .ensures)))

@@ -1,6 +1,6 @@
--- `fed::put` meets its contract: RZ, U, and the rules that need no F. Assumes nothing.
-use Rattle.fed.proofs.Numbers.{quick-else}
+-- `fed::put` meets its contract: RZ, and else U. Assumes nothing.
 use borrow.Author.Needs.{needs}
+use borrow.Author.Tests.{eq-eqb, ne-eqb}
 use Rattle.fed.proofs.put.Statement.{statement}
 use Rattle.fed.proofs.put.Tie as tie
 
@@ -9,8 +9,6 @@ put-spec =
     tie.close
     (tie.spec
     (λ c κs. search needs)
+    (λ c. rw (eq-eqb _ _ (c .before .if1 .taken)) (c .rz-rule .ensures))
     (λ c κs. search needs)
-    (λ c κs. search needs)
-    (λ c. rw (c .before .match .keys1) (c .rz-rule .ensures))
-    (λ c. rw (c .before .match .keys2) (c .u-rule .ensures))
-    (λ c. let no = c .before .match .rest in rw (quick-else _ _ _ (no .0 .1) (no .1)) (c .put-quick .ensures)))
+    (λ c. rw (ne-eqb _ _ (c .before .if1 .left)) (c .u-rule .ensures)))

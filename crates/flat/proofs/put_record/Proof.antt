@@ -1,7 +1,7 @@
 -- `flat::put_record` counts the places, and then writes all of it. Assumes nothing.
 use mathlib.Core.Path.{sym, _∙_}
 use borrow.Author.Needs.{needs}
-use Rattle.flat.proofs.Recorded.{enough}
+use Rattle.flat.proofs.Enough.{enough}
 use Rattle.flat.proofs.put_record.Statement.{statement}
 use Rattle.flat.proofs.put_record.Tie as tie
 

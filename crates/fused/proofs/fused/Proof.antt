@@ -13,13 +13,15 @@ use Rattle.fused.proofs.fused.Tie as tie
 
 returns : tie.Need-returns
 returns c =
-    let a = c .before .before .args in
-    special-factor binary64 (a .x) (a .y) (a .z) (inl (not-yes (c .before .is-ordinary .ensures) (c .if1 .taken)))
+    let a = c .before .before .before .args in
+    c .with-one-nan .ensures
+    ∙ special-factor binary64 (a .x) (a .y) (a .z) (inl (not-yes (c .before .before .is-ordinary .ensures) (c .before .if1 .taken)))
 
 returns-2 : tie.Need-returns-2
 returns-2 c =
-    let a = c .before .before .before .before .args in
-    special-factor binary64 (a .x) (a .y) (a .z) (inr (not-yes (c .before .is-ordinary2 .ensures) (c .if2 .taken)))
+    let a = c .before .before .before .before .before .args in
+    c .with-one-nan2 .ensures
+    ∙ special-factor binary64 (a .x) (a .y) (a .z) (inr (not-yes (c .before .before .is-ordinary2 .ensures) (c .before .if2 .taken)))
 
 returns-3 : tie.Need-returns-3
 returns-3 c =
@@ -44,18 +46,22 @@ returns-4 c =
 
 returns-5 : tie.Need-returns-5
 returns-5 c =
-    let second = c .before .before .before .before in
+    let fourth = c .before in
+    let second = fourth .before .before .before .before in
     let first = second .before .before in
     let a = first .before .before .args in
-    special-term binary64 (a .x) (a .y) (a .z) (not-no (first .before .is-ordinary .ensures) (first .if1 .left))
-    (not-no (second .before .is-ordinary2 .ensures) (second .if2 .left)) (no (c .before .is-finite .ensures) (c .if4 .left))
+    c .with-one-nan3 .ensures
+    ∙ special-term binary64 (a .x) (a .y) (a .z) (not-no (first .before .is-ordinary .ensures) (first .if1 .left))
+    (not-no (second .before .is-ordinary2 .ensures) (second .if2 .left)) (no (fourth .before .is-finite .ensures) (fourth .if4 .left))
 
 pub fused-spec : {M : Type 1} → statement M
 fused-spec =
     tie.close
     (tie.spec
     (λ c κs. search needs)
+    (λ c κs. search needs)
     returns
+    (λ c κs. search needs)
     (λ c κs. search needs)
     returns-2
     (λ c κs. search needs)
@@ -63,4 +69,5 @@ fused-spec =
     returns-3
     (λ c κs. search needs)
     returns-4
+    (λ c κs. search needs)
     returns-5)

@@ -1,21 +1,21 @@
--- `keys::by_keys` meets its contract, by the law of the loop over the keys. Assumes nothing.
+-- `keys::by_keys` meets its contract, by the law of the loop over the keys; the matrix that was made is U's. Assumes nothing.
 use Prim.Native.Nat.{_+_, _-_, _^_, _<_}
-use mathlib.Core.Path.{sym}
 use native.Mathlib.Omega.{arith}
 use borrow.Author.Needs.{needs}
 use Rattle.book.specs.Answers.{buffers}
-use Rattle.fed.specs.Named.{putOf}
+use Rattle.fed.proofs.Numbers.{made-once}
+use Rattle.fed.specs.Named.{fusedOf}
 use Rattle.pairs.proofs.Bits.{or-ge}
 use Rattle.pairs.proofs.Keys.{Upto, size-is, small, starts, reach, asked, steps, ends}
 use Rattle.keys.proofs.by_keys.Statement.{statement}
 use Rattle.keys.proofs.by_keys.Tie as tie
 
 abbrev Inv-loop : tie.InvT-loop
-Inv-loop reals₀ imags₀ n fixed back0 back1 fed matrix size w₀ reals imags w =
-    Upto (putOf fed matrix) n fixed back0 back1 (buffers reals₀ imags₀) w (buffers reals imags)
+Inv-loop reals₀ imags₀ n fixed back0 back1 number angle matrix size w₀ reals imags w =
+    Upto (fusedOf number angle matrix) n fixed back0 back1 (buffers reals₀ imags₀) w (buffers reals imags)
 
 abbrev μ-loop : tie.MeasureT-loop
-μ-loop reals₀ imags₀ n fixed back0 back1 fed matrix size w₀ reals imags w = size - w
+μ-loop reals₀ imags₀ n fixed back0 back1 number angle matrix size w₀ reals imags w = size - w
 
 -- a turn: the key is below 2 ^ n, which is small
 abbrev start : tie.In-loop Inv-loop μ-loop → tie.Start Inv-loop μ-loop
@@ -52,9 +52,9 @@ loop-again c =
 returns : tie.Need-returns Inv-loop μ-loop
 returns c =
     let made = c .before .before in
-    let ok = made .before .before .before .before .pre in
-    rw (sym (made .before .feed .ensures .puts _ (made .matrix .ensures)))
-    (ends ok (c .before .loop .inv) (omega (arith, c .loop-test .left, size-is ok)))
+    let s = made .before .before .before .before in
+    let ok = s .pre in
+    rw (made-once (s .args .fed) (made .u-matrix .ensures)) (ends ok (c .before .loop .inv) (omega (arith, c .loop-test .left, size-is ok)))
 
 pub by-keys-spec : {M : Type 1} → statement M
 by-keys-spec =
@@ -62,7 +62,6 @@ by-keys-spec =
     (tie.spec
     Inv-loop
     μ-loop
-    (λ c κs. search needs)
     (λ c κs. search needs)
     shl-size
     (λ c. starts (c .before .before .before .before .pre))

@@ -7,10 +7,9 @@ use mathlib.Core.Option.{Option, some, none}
 use mathlib.Core.Path.{_≡_, sym, _∙_}
 use lib.ListN.{drop}
 use borrow.Author.Needs.{needs}
-use Rattle.book.specs.Records.{recordWith, rowOf, readRow, readOf}
+use Rattle.book.specs.Answers.{gives, denied, orDenied}
+use Rattle.book.specs.Records.{recordWith, rowOf, readRow}
 use Rattle.book.specs.declared.Gate.{Gate}
-use Rattle.book.specs.declared.Read.the-variants.{Record as Found, Refused as Unread}
-use Rattle.book.specs.declared.Refusal.the-variants.{Record as NoRecord}
 use Rattle.codes.proofs.Answered.{record-by}
 use Rattle.fields.specs.Answers.{numberField}
 use Rattle.fields.specs.declared.Field.the-variants.{Number}
@@ -19,12 +18,12 @@ use Rattle.shapes.specs.declared.Made.the-variants.{Gate as Made, Missing as No
 use Rattle.reader.proofs.read_record.Statement.{statement}
 use Rattle.reader.proofs.read_record.Tie as tie
 
-unread-gate : (session k : ℕ) (o : Option Gate) → madeOf o ≡ NoGate → Unread NoRecord ≡ readOf (recordWith session k o)
+unread-gate : (session k : ℕ) (o : Option Gate) → madeOf o ≡ NoGate → denied 8 ≡ orDenied 8 (recordWith session k o)
 unread-gate session k (some g) e = let z : _≡_ {A = ℕ} 0 1 = cc in absurd (omega arith)
 unread-gate session k none e = cc
 
 read-gate : (session k : ℕ) (g : Gate) (o : Option Gate) → madeOf o ≡ Made g
-    → Found (record { session = session; number = k; gate = g }) ≡ readOf (recordWith session k o)
+    → gives (record { session = session; number = k; gate = g }) ≡ orDenied 8 (recordWith session k o)
 read-gate session k g (some h) e = cc
 read-gate session k g none e = let z : _≡_ {A = ℕ} 0 1 = cc in absurd (omega arith)
 

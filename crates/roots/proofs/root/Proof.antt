@@ -5,8 +5,8 @@ use borrow.Author.Needs.{needs}
 use lib.Pow.{pow-pos}
 use lib.Ieee.{binary64, low, lt}
 use Rattle.numbers.proofs.Roots.{root-at}
-use Rattle.operands.proofs.Floats.{zero-is, value-pos, not-yes, not-no}
-use Rattle.roots.proofs.Special.{nan-is, root-negative, root-itself, not-negative}
+use Rattle.operands.proofs.Floats.{zero-is, nan-is, value-pos, not-yes, not-no}
+use Rattle.roots.proofs.Special.{root-negative, root-itself, not-negative}
 use Rattle.roots.proofs.Rooting.{rooted-scaled}
 use Rattle.roots.proofs.root.Statement.{statement}
 use Rattle.roots.proofs.root.Tie as tie
@@ -16,8 +16,10 @@ returns c = let x = c .before .args .x in nan-is ∙ root-negative binary64 x (a
 
 returns-2 : tie.Need-returns-2
 returns-2 c =
-    let x = c .before .before .before .args .x in
-    root-itself binary64 x (ap (lt x) (sym zero-is) ∙ c .before .before .if1 .left) (not-yes (c .before .is-ordinary .ensures) (c .if2 .taken))
+    let x = c .before .before .before .before .args .x in
+    c .with-one-nan .ensures
+    ∙ root-itself binary64 x (ap (lt x) (sym zero-is) ∙ c .before .before .before .if1 .left)
+    (not-yes (c .before .before .is-ordinary .ensures) (c .before .if2 .taken))
 
 even-power-requires : tie.Need-even-power-requires
 even-power-requires c κs = c .unpack .ensures .fields (not-no (c .before .before .is-ordinary .ensures) (c .before .if2 .left))
@@ -45,6 +47,7 @@ root-spec =
     tie.close
     (tie.spec
     returns
+    (λ c κs. search needs)
     (λ c κs. search needs)
     returns-2
     (λ c κs. search needs)

@@ -1,33 +1,39 @@
--- `sweeps::sweep` meets its contract: a rule that needs no F is the one of its number. Assumes nothing.
-use mathlib.Core.Path.{sym}
+-- `sweeps::sweep` meets its contract: one pair, read and written, or the runs. Assumes nothing.
 use native.Mathlib.Omega.{arith}
 use borrow.Author.Needs.{needs}
-use Rattle.fed.proofs.Numbers.{quick-rule}
+use Rattle.rules.specs.Rules.{quickOf}
+use Rattle.pairs.proofs.Buffers.{stepped}
+use Rattle.pairs.proofs.Keys.{size-is}
+use Rattle.sweeps.proofs.Single.{single-asks, single-swept}
 use Rattle.sweeps.proofs.sweep.Statement.{statement}
 use Rattle.sweeps.proofs.sweep.Tie as tie
 
-returns-3 : tie.Need-returns-3
-returns-3 c =
-    let ran = c .before .before .before .before in
-    let at = ran .before .before .before .before .before in
-    rw (sym (quick-rule (at .before .feed .ensures) (omega (arith, at .if1 .left)))) (ran .by-runs .ensures)
+returns : tie.Need-returns
+returns c =
+    let wrote = c .before .before .before .before in
+    let put = wrote .before .before .before in
+    let all = put .before .before .before .before in
+    let s = all .before .before .before in
+    single-swept (s .pre) (omega (arith, all .if1 .taken, size-is (s .pre))) (
+      stepped (quickOf (s .args .rule) (s .args .angle)) (put .before .read-pair .ensures) (put .put-quick .ensures) (wrote .write-pair .ensures .0),
+      wrote .write-pair .ensures .1,
+    )
 
 pub sweep-spec : {M : Type 1} → statement M
 sweep-spec =
     tie.close
     (tie.spec
     (λ c. search needs)
+    (λ c. search needs)
+    (λ c. c .before .before .before .pre .reach)
+    (λ c. omega (arith, c .before .before .before .pre))
+    (λ c κs. single-asks (c .before .before .before .before .before .pre))
     (λ c κs. search needs)
+    (λ c κs. single-asks (c .before .before .before .before .before .before .before .before .before .pre))
+    (λ c. search needs)
+    (λ c. search needs)
+    returns
     (λ c κs. search needs)
     (λ c. search needs)
     (λ c. search needs)
-    (λ c. search needs)
-    (λ c. search needs)
-    (λ c κs. search needs)
-    (λ c. search needs)
-    (λ c. search needs)
-    (λ c. search needs)
-    (λ c κs. search needs)
-    (λ c. search needs)
-    (λ c. search needs)
-    returns-3)
+    (λ c. search needs))

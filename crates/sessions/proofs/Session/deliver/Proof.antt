@@ -1,11 +1,11 @@
 -- `sessions::Session::deliver` meets its contract: by what was read, and by where the record stands. Assumes nothing.
-use mathlib.Core.Path.{_≡_, refl, sym, ap, _∙_, subst}
+use mathlib.Core.Path.{refl, sym, ap, _∙_}
 use borrow.Author.Needs.{needs}
-use Rattle.book.specs.Records.{readRecord}
-use Rattle.book.specs.Sessions as Book
+use Rattle.book.proofs.Gives.{gives-is, denied-is}
+use Rattle.book.specs.Records.{readRecord, readSays}
 use Rattle.standing.specs.Stands.{stands}
-use Rattle.sessions.specs.Deliveries.{meant, Delivers}
-use Rattle.sessions.proofs.Steps.{found-is, unread-is, unread, answered, goes, ran}
+use Rattle.sessions.specs.Deliveries.{meant}
+use Rattle.sessions.proofs.Steps.{unread, answered, goes, by-is, ran}
 use Rattle.sessions.proofs.Session.deliver.Statement.{statement}
 use Rattle.sessions.proofs.Session.deliver.Tie as tie
 
@@ -14,27 +14,24 @@ returns c =
     let told = c .before .before .before in
     let read = told .before .before in
     let a = read .before .before .before .before .args in
-    let none-read = unread-is (readRecord (a .bytes .now)) (sym (read .read-record .ensures) ∙ told .enum-told .given .1) in
-    rw (unread (meant (a .self)) _ (a .bytes .now) none-read) (c .passed .ensures)
-
-counted-requires : tie.Need-counted-requires
-counted-requires c κs =
-    let acted = c .before .before .before .before in
-    let told = acted .before .before .before in
-    told .before .before .stand .ensures .1 (told .enum-told2 .given .1)
+    let none-read = denied-is 8 (readRecord (a .bytes .now)) (sym (ap readSays (told .enum-told .given .1)) ∙ read .read-record .ensures) .0 in
+    search (by-is (unread (meant (a .self)) _ (a .bytes .now) none-read) (c .passed .ensures))
 
 returns-2 : tie.Need-returns-2
 returns-2 c =
-    let acted = c .before .before .before .before .before in
-    let told = acted .before .before .before in
+    let acted = c .before .before .before .before .before .before in
+    let told = acted .before .before .before .before in
     let stood = told .before .before in
     let known = stood .before .before in
     let read = known .before .before in
     let a = read .before .before .before .before .args in
     let it = known .it .given .0 .0 in
-    let found = found-is (readRecord (a .bytes .now)) (sym (read .read-record .ensures) ∙ known .it .given .1) in
-    let next = sym (ap stands (told .enum-told2 .given .1)) ∙ stood .stand .ensures .0 (meant (a .self)) refl refl in
-    rw (goes (meant (a .self)) _ (a .bytes .now) it found next) (ran (a .self) _ (a .bytes .now) it (acted .act .ensures) (c .counted .ensures))
+    let found = gives-is 8 (readRecord (a .bytes .now)) (sym (ap readSays (known .it .given .1)) ∙ read .read-record .ensures) in
+    let next = sym (ap stands (told .next .given .1)) ∙ stood .stand .ensures .is (meant (a .self)) refl refl in
+    let raised = stood .stand .ensures .next _ (told .next .given .1) in
+    search
+    (by-is (goes (meant (a .self)) _ (a .bytes .now) it found next)
+    (ran (a .self) _ (c .told .ensures) (a .bytes .now) it (acted .act .ensures) raised (c .before .ran .ensures)))
 
 returns-3 : tie.Need-returns-3
 returns-3 c =
@@ -44,9 +41,9 @@ returns-3 c =
     let read = known .before .before in
     let a = read .before .before .before .before .args in
     let it = known .it .given .0 .0 in
-    let found = found-is (readRecord (a .bytes .now)) (sym (read .read-record .ensures) ∙ known .it .given .1) in
-    let said = sym (ap stands (reply .reply .given .1)) ∙ stood .stand .ensures .0 (meant (a .self)) refl refl in
-    rw (answered (meant (a .self)) _ (a .bytes .now) it found _ said) (c .passed2 .ensures)
+    let found = gives-is 8 (readRecord (a .bytes .now)) (sym (ap readSays (known .it .given .1)) ∙ read .read-record .ensures) in
+    let said = sym (ap stands (reply .reply .given .1)) ∙ stood .stand .ensures .is (meant (a .self)) refl refl in
+    search (by-is (answered (meant (a .self)) _ (a .bytes .now) it found _ said) (c .passed2 .ensures))
 
 pub deliver-spec : {M : Type 1} → statement M
 deliver-spec =
@@ -62,7 +59,8 @@ deliver-spec =
     (λ c κs. search needs)
     (λ c. search needs)
     (λ c κs. search needs)
-    counted-requires
+    (λ c κs. search needs)
+    (λ c κs. search needs)
     (λ c. search needs)
     (λ c κs. search needs)
     (λ c. search needs)

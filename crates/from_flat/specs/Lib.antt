@@ -1,0 +1,2 @@
+-- Records from flat lists of numbers.
+pub mod Records

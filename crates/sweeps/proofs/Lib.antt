@@ -1,0 +1,2 @@
+-- Single: a sweep of one pair.
+pub mod Single
