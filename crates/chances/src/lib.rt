@@ -1,9 +1,14 @@
-// What a measurement asks before it touches a buffer: whether outcome and reset are 0 or 1, the outcome's probability, which is passed on, and 1 over its root.
+// What a measurement asks before it touches a buffer: tests 6 and 7, the outcome's probability, which is passed on, and 1 over its root.
+use book::Answer;
 use book::Forced;
+use book::Refusal;
 use operands::is_finite;
 pub use probabilities::chance;
+ghost use mathlib.Core.List.{[], _∷_};
 ghost use mathlib.Core.Path.{_≡_};
+ghost use Rattle.book.specs.Answers.{_⇒_};
 ghost use Rattle.book.specs.Measuring.{badForced, badChance, oneOverRoot};
+ghost use Rattle.judging.specs.Judging.{Judges};
 
 // Outcome or reset is neither 0 nor 1.
 pub fn bad_forced(forced: Forced) -> bool
@@ -23,6 +28,21 @@ pub fn bad_chance(p: f64) -> bool
         return !(0.0 < p);
     }
     true
+}
+
+// Tests 6 and 7, of an outcome that has this probability.
+pub fn own(forced: Forced, p: f64) -> Answer
+    ensures { λ r. ⌜ Judges (badForced forced ⇒ 6 ∷ badChance p ⇒ 7 ∷ []) r ⌝ }
+{
+    let neither = bad_forced(forced);
+    let unlikely = bad_chance(p);
+    if neither {
+        return Answer::Refused(Refusal::Number);
+    }
+    if unlikely {
+        return Answer::Refused(Refusal::Chance);
+    }
+    Answer::Taken
 }
 
 // 1/root(p)

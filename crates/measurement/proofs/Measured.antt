@@ -1,8 +1,8 @@
 -- A measurement after its seat was judged: refused by 6 or 7, or collapsed and set back. Assumes nothing.
 use Prim.Native.Nat.{ℕ, _^_}
-use mathlib.Core.Bool.{true, false, cond, _&&_}
+use mathlib.Core.Bool.{false, cond, _&&_}
 use mathlib.Core.List.{List, [], _∷_, _++_}
-use mathlib.Core.Path.{_≡_, refl, sym, ap, _∙_}
+use mathlib.Core.Path.{_≡_, refl, ap, _∙_}
 use denote.Enum.Declared.{tagOf}
 use types.Run.{OneOf}
 use borrow.Author.Tests.{eq-eqb, lt-leb}
@@ -10,9 +10,8 @@ use lib.Dec.{eqb, leb}
 use lib.Ieee.{Float}
 use lib.ListN.{length}
 use Rattle.book.proofs.Answer as Cases
-use Rattle.book.proofs.Calls.{refuses, takes}
 use Rattle.book.proofs.Lengths.{held-fits}
-use Rattle.book.proofs.Refusals.{first-clear, right-lengths, right-size}
+use Rattle.book.proofs.Refusals.{right-lengths, right-size}
 use Rattle.book.specs.Answers.{Test, _⇒_, first, Buffers, unless, Does}
 use Rattle.book.specs.Calls.{callOf, act}
 use Rattle.book.specs.Gates.{xRule}
@@ -23,8 +22,7 @@ use Rattle.book.specs.declared.Answer.{Answer}
 use Rattle.book.specs.declared.Answer.the-variants.{Taken, Value, Refused}
 use Rattle.book.specs.declared.Forced.{Forced}
 use Rattle.book.specs.declared.Gate.the-variants.{X, Measure}
-use Rattle.book.specs.declared.Refusal.the-variants.{Number, Chance}
-use Rattle.judging.proofs.Judged.{passed, judged-stays, keeps}
+use Rattle.judging.proofs.Judged.{passed, judged-behind, judged-stays, keeps, works}
 use Rattle.judging.proofs.Seats.{free, free-seated}
 use Rattle.judging.specs.Judging.{Judges, Seated, freeTests}
 use Rattle.measurement.specs.Resets.{Reset}
@@ -45,27 +43,22 @@ module _ (n t : ℕ) (f : Forced) (b : Buffers) where
       unfolding sizeTests
       seat = free-seated n t b [] (passed judged told)
 
-      -- it was not: 6 and 7 decide
-      decided : first (sizeTests n b ++ measureCall n t f b .tests) ≡ first later
-      unfolding sizeTests
-      decided = first-clear (sizeTests n b ++ freeTests n t) later tt (passed judged told)
+      module _ {o : Answer} (p : Float) (is : p ≡ probability n t (f .outcome) (at b)) (own : Judges (badForced f ⇒ 6 ∷ badChance p ⇒ 7 ∷ []) o) where
+        -- it was not: 6 and 7 decide
+        decided : Judges (sizeTests n b ++ measureCall n t f b .tests) o
+        unfolding sizeTests
+        decided = judged-behind (sizeTests n b ++ freeTests n t) later tt judged told (rw is at own)
 
-      pub measure-number : badForced f ≡ true → Does (act n (Measure t f) b) (Refused Number) b
-      unfolding first
-      measure-number e = refuses Number b (measureCall n t f b) (decided ∙ (rw e))
+        pub measure-refused : OneOf (1 ∷ 2 ∷ []) (tagOf Cases.the-type o) → Does (act n (Measure t f) b) o b
+        measure-refused h = keeps (sizeTests n b) b (measureCall n t f b) decided h
 
-      module _ (good : badForced f ≡ false) where
-        pub measure-chance : badChance (probability n t (f .outcome) (at b)) ≡ true → Does (act n (Measure t f) b) (Refused Chance) b
-        unfolding first
-        measure-chance e = refuses Chance b (measureCall n t f b) (decided ∙ (rw (good, e)))
-
-        pub measure-done : (p r : Float) (b₁ b₂ : Buffers) → p ≡ probability n t (f .outcome) (at b) → badChance p ≡ false → r ≡ oneOverRoot p
-            → b₁ ≡ held (2 ^ n) (collapsed t (f .outcome) r (at b)) → Reset n t f b₁ b₂ → Does (act n (Measure t f) b) (Value (f .outcome)) b₂
-        unfolding first measured
-        measure-done p r b₁ b₂ is e by-root c x =
+        pub measure-done : o ≡ Taken → {r : Float} {b₁ b₂ : Buffers} → r ≡ oneOverRoot p → b₁ ≡ held (2 ^ n) (collapsed t (f .outcome) r (at b))
+            → Reset n t f b₁ b₂ → Does (act n (Measure t f) b) (Value (f .outcome)) b₂
+        unfolding measured
+        measure-done passed-own by-root c x =
             let made = c ∙ ap (λ (q : Float). held (2 ^ n) (collapsed t (f .outcome) q (at b))) (by-root ∙ ap oneOverRoot is) in
             let left = x ∙ ap (λ (y : Buffers). cond (eqb (f .outcome) 1 && eqb (f .reset) 1) (onPairs xRule n t uncontrolled y) y) made in
-            takes b (measureCall n t f b) (decided ∙ (rw (good, sym (ap badChance is) ∙ e))) refl left
+            works (sizeTests n b) b (measureCall n t f b) decided passed-own refl left
 
 -- the collapsed state is of the same size
 pub seat-still : {n t : ℕ} {b b₁ : Buffers} (s : State) → Seated n t uncontrolled b → b₁ ≡ held (2 ^ n) s → Seated n t uncontrolled b₁

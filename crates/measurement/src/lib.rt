@@ -3,9 +3,6 @@ use book::Answer;
 use book::Controls;
 use book::Forced;
 use book::Gate;
-use book::Refusal;
-use chances::bad_chance;
-use chances::bad_forced;
 use chances::chance;
 use chances::one_over_root;
 use collapses::collapse;
@@ -53,17 +50,15 @@ pub fn measure_qubit(
 {
     let seat = judging::free_seat(reals, imags, n, target);
     if let Answer::Taken = seat {
-        if bad_forced(forced) {
-            return Answer::Refused(Refusal::Number);
-        }
         let outcome = forced.outcome;
         let p = chance(reals, imags, n, target, outcome);
-        if bad_chance(p) {
-            return Answer::Refused(Refusal::Chance);
+        let own = chances::own(forced, p);
+        if let Answer::Taken = own {
+            collapse(reals, imags, n, target, outcome, one_over_root(p));
+            set_back(reals, imags, n, target, forced);
+            return Answer::Value(outcome);
         }
-        collapse(reals, imags, n, target, outcome, one_over_root(p));
-        set_back(reals, imags, n, target, forced);
-        return Answer::Value(outcome);
+        return own;
     }
     seat
 }

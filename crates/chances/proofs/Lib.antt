@@ -1,0 +1,2 @@
+-- Tests: 6 and 7.
+mod Tests
