@@ -1,4 +1,3 @@
--- Plain: a call's number is its outcome's. Started, Spelled: contracts case by case.
+-- Plain: a call's number is its outcome's. Started: a start, case by case.
 pub mod Plain
 pub mod Started
-pub mod Spelled

@@ -1,3 +1,2 @@
 -- Answers as numbers, and the contracts of the calls.
 pub mod Tells
-pub mod Spelling

@@ -3,7 +3,7 @@
 mod deliveries;
 mod kernels;
 mod matrices;
-mod spelling;
+mod records;
 
 ghost use mathlib.Core.Path.{_≡_};
 ghost use lib.Ieee.{binary64};

@@ -1,8 +1,8 @@
--- `c_api::spelling::gate_bench_read_record` tells what putting the record's numbers answers, or refusal 8. Assumes nothing.
+-- `spelling::read_numbers` tells what putting the record's numbers answers, or refusal 8. Assumes nothing.
 use borrow.Author.Needs.{needs}
-use Rattle.c_api.proofs.Spelled.{reads-none, reads}
-use Rattle.c_api.proofs.spelling.gate_bench_read_record.Statement.{statement}
-use Rattle.c_api.proofs.spelling.gate_bench_read_record.Tie as tie
+use Rattle.spelling.proofs.Spelled.{reads-none, reads}
+use Rattle.spelling.proofs.read_numbers.Statement.{statement}
+use Rattle.spelling.proofs.read_numbers.Tie as tie
 
 returns : tie.Need-returns
 returns c =
@@ -15,8 +15,8 @@ returns-2 c =
     let unread = c .before .before in
     reads-none _ _ _ (unread .before .before .read-record .ensures) (unread .refusal .given .1) (c .number-of .ensures)
 
-pub gate-bench-read-record-spec : {M : Type 1} → statement M
-gate-bench-read-record-spec =
+pub read-numbers-spec : {M : Type 1} → statement M
+read-numbers-spec =
     tie.close
     (tie.spec
     (λ c κs. search needs)

@@ -1,14 +1,14 @@
--- `c_api::spelling::gate_bench_write_record` writes what the numbers are, and tells how many bytes. Assumes nothing.
+-- `spelling::write_numbers` writes what the numbers are, and tells how many bytes. Assumes nothing.
 use native.Mathlib.Omega.{arith}
 use mathlib.Core.Path.{sym, ap, _∙_}
 use borrow.Author.Needs.{needs}
 use Prim.Native.Nat.{ℕ}
 use Rattle.book.specs.Records.{writtenSays}
 use Rattle.book.specs.declared.Written.{Written}
-use Rattle.c_api.specs.Spelling.{writtenNumber}
-use Rattle.c_api.proofs.Spelled.{writes-none, writes, size-fits}
-use Rattle.c_api.proofs.spelling.gate_bench_write_record.Statement.{statement}
-use Rattle.c_api.proofs.spelling.gate_bench_write_record.Tie as tie
+use Rattle.spelling.specs.Spelling.{writtenNumber}
+use Rattle.spelling.proofs.Spelled.{writes-none, writes, size-fits}
+use Rattle.spelling.proofs.write_numbers.Statement.{statement}
+use Rattle.spelling.proofs.write_numbers.Tie as tie
 
 abbrev number : Written → ℕ
 number w = writtenNumber (writtenSays w)
@@ -43,8 +43,8 @@ returns-3 c =
     let unread = c .before .before in
     writes-none _ _ (unread .before .before .record-of .ensures) (unread .refusal2 .given .1) (c .number-of2 .ensures)
 
-pub gate-bench-write-record-spec : {M : Type 1} → statement M
-gate-bench-write-record-spec =
+pub write-numbers-spec : {M : Type 1} → statement M
+write-numbers-spec =
     tie.close
     (tie.spec
     (λ c κs. search needs)

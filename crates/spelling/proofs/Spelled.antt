@@ -21,7 +21,7 @@ use Rattle.book.specs.declared.Written.{Written}
 use Rattle.book.specs.declared.Written.the-variants.{Bytes}
 use Rattle.flat.specs.Numbers.{tooFew, Puts}
 use Rattle.records.proofs.Sizes.{at-most}
-use Rattle.c_api.specs.Spelling.{Reads, writtenNumber, Writes}
+use Rattle.spelling.specs.Spelling.{Reads, writtenNumber, Writes}
 
 -- ---- reading
 

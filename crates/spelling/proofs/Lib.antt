@@ -1,0 +1,2 @@
+-- Spelled: the contracts case by case.
+pub mod Spelled

@@ -1,0 +1,2 @@
+-- The contracts of reading and writing a record's numbers.
+pub mod Spelling
