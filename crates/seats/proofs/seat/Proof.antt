@@ -1,8 +1,8 @@
--- `judging::seat` meets its contract: each return cites the refusal that its test gives, and that those before it were passed. Assumes nothing.
+-- `seats::seat` meets its contract: each return cites the refusal that its test gives, and that those before it were passed. Assumes nothing.
 use borrow.Author.Needs.{needs}
-use Rattle.judging.proofs.Refusals.{seats}
-use Rattle.judging.proofs.seat.Statement.{statement}
-use Rattle.judging.proofs.seat.Tie as tie
+use Rattle.seats.proofs.Refusals.{seats}
+use Rattle.seats.proofs.seat.Statement.{statement}
+use Rattle.seats.proofs.seat.Tie as tie
 
 pub seat-spec : {M : Type 1} → statement M
 seat-spec =
