@@ -1,4 +1,4 @@
-// The seat of a gate: tests 1 to 5 of 01's table, in their order. It stands below judging, in a small crate, since each edit of the tests proves its crate anew.
+// The seat of a gate: tests 1 to 5 of 01's table, in their order. Below judging, in a small crate, since each edit of a test proves its crate anew.
 use book::Answer;
 use book::Controls;
 use book::MOST_QUBITS;
