@@ -1,4 +1,4 @@
--- Shifts: the code's `1 << n`. Finite: the test of a list. Refusals: the tests of a seat from their numbers. Judged: a call after its judge.
+-- Shifts: the code's `1 << n`. Finite: the test of a list. Refusals: tests 1 and 2 from their numbers. Judged: a call after its judge.
 -- Seats: what holds of a call that was let pass.
 pub mod Shifts
 pub mod Finite

@@ -1,10 +1,10 @@
--- `judging::far` meets its contract, test by test. Assumes nothing.
+-- `seats::far` meets its contract, test by test. Assumes nothing.
 use native.Mathlib.Nat.{mod-lt, zero-lt-suc}
 use borrow.Author.Needs.{needs}
 use borrow.Author.Tests.{le-leb, lt-leb}
-use Rattle.judging.proofs.Shifts.{shl-one}
-use Rattle.judging.proofs.far.Statement.{statement}
-use Rattle.judging.proofs.far.Tie as tie
+use Rattle.seats.proofs.Shifts.{shl-one}
+use Rattle.seats.proofs.far.Statement.{statement}
+use Rattle.seats.proofs.far.Tie as tie
 
 returns : tie.Need-returns
 returns c = rw (le-leb (c .before .args .n) (c .before .args .target) (search needs))

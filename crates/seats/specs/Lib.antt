@@ -1,0 +1,2 @@
+-- What the judge of a list of tests answers.
+pub mod Judging
