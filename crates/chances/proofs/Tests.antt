@@ -9,7 +9,7 @@ use Rattle.book.specs.declared.Answer.{Answer}
 use Rattle.book.specs.declared.Answer.the-variants.{Taken, Refused}
 use Rattle.book.specs.declared.Forced.{Forced}
 use Rattle.book.specs.declared.Refusal.the-variants.{Number, Chance}
-use Rattle.judging.specs.Judging.{Judges}
+use Rattle.seated.specs.Judging.{Judges}
 
 module _ (f : Forced) (p : Float) {neither : Bool} (e6 : neither ≡ badForced f) where
   abbrev Own : Answer → Type 0

@@ -8,7 +8,7 @@ ghost use mathlib.Core.List.{[], _∷_};
 ghost use mathlib.Core.Path.{_≡_};
 ghost use Rattle.book.specs.Answers.{_⇒_};
 ghost use Rattle.book.specs.Measuring.{badForced, badChance, oneOverRoot};
-ghost use Rattle.judging.specs.Judging.{Judges};
+ghost use Rattle.seated.specs.Judging.{Judges};
 
 // Outcome or reset is neither 0 nor 1.
 pub fn bad_forced(forced: Forced) -> bool

@@ -17,7 +17,7 @@ use Rattle.book.specs.declared.Amplitude.{Amplitude}
 use Rattle.pairs.proofs.Halves.{turn-none, turn-join, turn-one}
 use Rattle.probabilities.specs.Stretches.{Stretch}
 use Rattle.collapses.specs.Halves.{halfOf, Remade}
-use Rattle.judging.specs.Judging.{Seated}
+use Rattle.seated.specs.Judging.{Seated}
 use Rattle.pairs.proofs.Blocks.{Base, first, room, next, low, high, ended}
 
 module _ (f : ℕ → Amplitude → Amplitude) where

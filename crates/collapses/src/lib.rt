@@ -7,7 +7,7 @@ ghost use Rattle.book.specs.Measuring.{collapsed};
 ghost use Rattle.book.specs.State.{at, held, uncontrolled};
 ghost use Rattle.probabilities.specs.Stretches.{Stretch};
 ghost use Rattle.collapses.specs.Halves.{scaled, cleared, halfOf, Remade};
-ghost use Rattle.judging.specs.Judging.{Seated};
+ghost use Rattle.seated.specs.Judging.{Seated};
 
 // A stretch of the chosen half.
 fn scale_part(reals: &mut [f64], imags: &mut [f64], from: usize, to: usize, r: f64)

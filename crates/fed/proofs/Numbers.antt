@@ -11,7 +11,7 @@ use Rattle.book.specs.declared.Angles.{Angles}
 use Rattle.book.specs.declared.Answer.the-variants.{Taken}
 use Rattle.book.specs.declared.Matrix.{Matrix}
 use Rattle.book.specs.declared.Pair.{Pair}
-use Rattle.judging.specs.Judging.{Judges}
+use Rattle.seated.specs.Judging.{Judges}
 use Rattle.fed.specs.Named.{ruleOf, fusedOf, putOf, upperRule, upperOf}
 use Rattle.fed.specs.declared.Fed.{Fed}
 use Rattle.rules.specs.Rules.{quickOf}

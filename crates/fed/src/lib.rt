@@ -13,7 +13,7 @@ use fused_rules::u_rule;
 use rules::z_upper;
 ghost use mathlib.Core.Path.{_≡_};
 ghost use Rattle.book.specs.Gates.{angleOf, finiteTests};
-ghost use Rattle.judging.specs.Judging.{Judges};
+ghost use Rattle.seated.specs.Judging.{Judges};
 ghost use Rattle.fed.specs.Named.{mostOf, ownOf, fusedOf, upperMost, upperOwn, upperOf};
 
 // The gates that change both places of a pair: those that need no F first.

@@ -8,8 +8,8 @@ use Rattle.book.specs.Kernels.{badSize, mostQubits, badLength, sizeTests}
 use Rattle.book.specs.declared.Answer.the-variants.{Taken, Refused}
 use Rattle.book.specs.declared.Refusal.the-variants.{Size, Length}
 use Rattle.seats.proofs.Refusals.{small}
-use Rattle.seats.proofs.Shifts.{shl, shl-is}
-use Rattle.judging.specs.Judging.{Judges}
+use Rattle.seated.proofs.Shifts.{shl, shl-is}
+use Rattle.seated.specs.Judging.{Judges}
 
 pub shift-fits : (n : ℕ) {out : Bool} → out ≡ badSize mostQubits n → out ≡ false → n < 64
 shift-fits n e h = omega (arith, small n e h)

@@ -14,7 +14,7 @@ ghost use mathlib.Core.List.{_++_};
 ghost use Rattle.book.specs.Gates.{allFinite, finiteTests};
 ghost use Rattle.book.specs.Kernels.{sizeTests};
 ghost use Rattle.book.specs.Lent.{before};
-ghost use Rattle.judging.specs.Judging.{Judges, firstOf, freeTests};
+ghost use Rattle.seated.specs.Judging.{Judges, firstOf, freeTests};
 
 // The seat of a gate that takes no control mask: 1 to 3.
 pub fn free_seat(reals: &[f64], imags: &[f64], n: u32, target: u32) -> Answer

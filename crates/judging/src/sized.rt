@@ -6,7 +6,7 @@ use sizes::bad_length;
 use sizes::bad_size;
 ghost use Rattle.book.specs.Kernels.{sizeTests};
 ghost use Rattle.book.specs.Lent.{before};
-ghost use Rattle.judging.specs.Judging.{Judges};
+ghost use Rattle.seated.specs.Judging.{Judges};
 
 // n is 1 to 24, and both buffers have 2^n places.
 pub fn size(reals: &[f64], imags: &[f64], n: u32) -> Answer

@@ -22,9 +22,9 @@ use Rattle.book.specs.declared.Answer.{Answer}
 use Rattle.book.specs.declared.Answer.the-variants.{Taken, Value, Refused}
 use Rattle.book.specs.declared.Forced.{Forced}
 use Rattle.book.specs.declared.Gate.the-variants.{X, Measure}
-use Rattle.judging.proofs.Judged.{passed, judged-behind, judged-stays, keeps, works}
-use Rattle.judging.proofs.Seats.{free, free-seated}
-use Rattle.judging.specs.Judging.{Judges, Seated, freeTests}
+use Rattle.seated.proofs.Judged.{passed, judged-behind, judged-stays, keeps, works}
+use Rattle.seated.proofs.Seats.{free, free-seated}
+use Rattle.seated.specs.Judging.{Judges, Seated, freeTests}
 use Rattle.measurement.specs.Resets.{Reset}
 
 module _ (n t : ℕ) (f : Forced) (b : Buffers) where

@@ -14,7 +14,7 @@ ghost use Rattle.book.specs.Answers.{Does};
 ghost use Rattle.book.specs.Calls.{act};
 ghost use Rattle.book.specs.Lent.{before, after, here};
 ghost use Rattle.book.specs.State.{uncontrolled};
-ghost use Rattle.judging.specs.Judging.{Seated};
+ghost use Rattle.seated.specs.Judging.{Seated};
 ghost use Rattle.measurement.specs.Resets.{Reset};
 
 // If the outcome is 1 and reset is 1, X follows.

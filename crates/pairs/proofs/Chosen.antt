@@ -12,7 +12,7 @@ use Rattle.book.specs.Answers.{Buffers}
 use Rattle.book.specs.State.{State, at, bit, chosen, choice, pair, placed, onPairs}
 use Rattle.book.specs.declared.Controls.{Controls}
 use Rattle.book.specs.declared.Pair.{Pair}
-use Rattle.judging.specs.Judging.{Seated}
+use Rattle.seated.specs.Judging.{Seated}
 use Rattle.pairs.specs.Pairs.{Has, Paired, Keyed, Swept}
 use Rattle.pairs.proofs.Bits.{halves, bit-up, bit-le, bit-before, bit-down, up-lt, has-set, set-has, and-up}
 use Rattle.pairs.proofs.Buffers.{held-ext}

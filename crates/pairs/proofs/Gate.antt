@@ -15,10 +15,10 @@ use Rattle.book.specs.declared.Answer.{Answer}
 use Rattle.book.specs.declared.Answer.the-variants.{Taken}
 use Rattle.book.specs.declared.Controls.{Controls}
 use Rattle.book.specs.declared.Pair.{Pair}
-use Rattle.judging.proofs.Judged.{passed, judged-then, works, keeps}
-use Rattle.judging.proofs.Seats.{seated}
-use Rattle.judging.proofs.Shifts.{shl, shl-is, pow-le}
-use Rattle.judging.specs.Judging.{Judges, firstOf, Seated}
+use Rattle.seated.proofs.Judged.{passed, judged-then, works, keeps}
+use Rattle.seated.proofs.Seats.{seated}
+use Rattle.seated.proofs.Shifts.{shl, shl-is, pow-le}
+use Rattle.seated.specs.Judging.{Judges, firstOf, Seated}
 use Rattle.pairs.specs.Pairs.{Keyed, Swept}
 use Rattle.pairs.proofs.Chosen.{keyed, swept-gate}
 

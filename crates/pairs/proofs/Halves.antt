@@ -16,7 +16,7 @@ use Rattle.book.specs.State.{State, amplitude, at, bit, chosen, half, choice, p
 use Rattle.book.specs.declared.Amplitude.{Amplitude}
 use Rattle.book.specs.declared.Controls.{Controls}
 use Rattle.book.specs.declared.Pair.{Pair}
-use Rattle.judging.specs.Judging.{Seated}
+use Rattle.seated.specs.Judging.{Seated}
 use Rattle.pairs.specs.Pairs.{Mapped, UppersTurned}
 use Rattle.pairs.proofs.Bits.{halves}
 use Rattle.pairs.proofs.Buffers.{held-ext}

@@ -11,7 +11,7 @@ use Rattle.book.specs.declared.Pair.{Pair}
 use Rattle.pairs.specs.Pairs.{TwoPlaces, PairPut, Apart, Paired, Has, Keyed, Swept}
 use Rattle.pairs.proofs.Bits.{or-ge, or-covers, next-least}
 use Rattle.pairs.proofs.Loop.{nothing, one, join}
-use Rattle.judging.proofs.Shifts.{shl, shl-is, pow-le}
+use Rattle.seated.proofs.Shifts.{shl, shl-is, pow-le}
 
 pub key-ge : (fixed w : ℕ) → Has fixed w → fixed ≤ w
 key-ge fixed w k = omega (arith, and-le-l w fixed)

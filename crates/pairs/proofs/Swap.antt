@@ -17,10 +17,10 @@ use Rattle.book.specs.Kernels.{sizeTests, swapped, swapCall}
 use Rattle.book.specs.State.{uncontrolled}
 use Rattle.book.specs.declared.Answer.{Answer}
 use Rattle.book.specs.declared.Answer.the-variants.{Taken}
-use Rattle.judging.proofs.Judged.{passed, works, keeps}
-use Rattle.judging.proofs.Seats.{free-seated}
-use Rattle.judging.proofs.Shifts.{shl, shl-is, pow-le}
-use Rattle.judging.specs.Judging.{Judges, Seated, freeTests}
+use Rattle.seated.proofs.Judged.{passed, works, keeps}
+use Rattle.seated.proofs.Seats.{free-seated}
+use Rattle.seated.proofs.Shifts.{shl, shl-is, pow-le}
+use Rattle.seated.specs.Judging.{Judges, Seated, freeTests}
 use Rattle.pairs.specs.Pairs.{Keyed, Swept}
 use Rattle.pairs.proofs.Exchanged.{swap-keyed, swept-swap, swapped-itself, swapped-sym}
 

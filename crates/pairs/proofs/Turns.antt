@@ -21,7 +21,7 @@ use Rattle.pairs.proofs.Cuts.{pow-split}
 use Rattle.pairs.proofs.Keys.{key-ge, apart}
 use Rattle.pairs.proofs.Lending.{lent, returned, lent-reals, lent-imags, lent-place, back-same, back-inside, back-before, back-after}
 use Rattle.pairs.proofs.Loop.{nothing, join, Same, Same′, renumber}
-use Rattle.judging.proofs.Shifts.{pow-le}
+use Rattle.seated.proofs.Shifts.{pow-le}
 use Rattle.pairs.proofs.Spaced.{gap, halved}
 
 -- ---- which numbers of a run are keys

@@ -9,7 +9,7 @@ use Rattle.book.specs.declared.Pair.{Pair}
 use Rattle.pairs.specs.Pairs.{Keyed, Swept}
 use Rattle.pairs.specs.Runs.{Runs}
 use Rattle.pairs.proofs.Cuts.{tail-lt, low-le, wide-sum, run-le, cut}
-use Rattle.judging.proofs.Shifts.{shl, shl-is, pow-le}
+use Rattle.seated.proofs.Shifts.{shl, shl-is, pow-le}
 
 -- the code's stride, what is left of the fixed bits, and the length of a run
 abbrev pub strideOf : ℕ → ℕ

@@ -11,7 +11,7 @@ use Rattle.book.specs.Gates.{_⊕_}
 use Rattle.book.specs.Measuring.{square, summed, probability}
 use Rattle.book.specs.State.{State, at, bit, uncontrolled}
 use Rattle.probabilities.specs.Stretches.{Lower}
-use Rattle.judging.specs.Judging.{Seated}
+use Rattle.seated.specs.Judging.{Seated}
 use Rattle.pairs.proofs.Blocks.{Base, first, room, next, low, high, ended}
 
 pub sum-none : (t : ℕ) (s : State) → ofBits binary64 0 ≡ summed t 0 s 0

@@ -5,7 +5,7 @@ ghost use Prim.Native.Nat.{_^_};
 ghost use Rattle.book.specs.Lent.{before, here};
 ghost use Rattle.book.specs.Measuring.{summed, probability};
 ghost use Rattle.book.specs.State.{at, uncontrolled};
-ghost use Rattle.judging.specs.Judging.{Seated};
+ghost use Rattle.seated.specs.Judging.{Seated};
 ghost use Rattle.probabilities.specs.Stretches.{Lower};
 
 // The squares of a stretch of lower places, added to the sum so far.

@@ -1,3 +1,2 @@
--- Shifts: the code's `1 << n`. Refusals: the tests of a seat from their numbers.
-pub mod Shifts
+-- Refusals: the tests of a seat from their numbers.
 pub mod Refusals

@@ -16,8 +16,8 @@ use Rattle.book.specs.declared.Answer.{Answer}
 use Rattle.book.specs.declared.Answer.the-variants.{Taken, Refused}
 use Rattle.book.specs.declared.Controls.{Controls}
 use Rattle.book.specs.declared.Refusal.the-variants.{Size, Length, Qubit, Same, Form}
-use Rattle.seats.proofs.Shifts.{shl, shl-is}
-use Rattle.seats.specs.Judging.{Judges}
+use Rattle.seated.proofs.Shifts.{shl, shl-is}
+use Rattle.seated.specs.Judging.{Judges}
 
 -- test 1 passed: n is at most 24
 pub small : (n : ℕ) {out : Bool} → out ≡ badSize mostQubits n → out ≡ false → n ≤ 24

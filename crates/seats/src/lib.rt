@@ -12,7 +12,7 @@ ghost use Prim.Native.Nat.{_%_, _^_};
 ghost use lib.Dec.{leb};
 ghost use Rattle.book.specs.Kernels.{sizeTests, seatTests};
 ghost use Rattle.book.specs.Lent.{before};
-ghost use Rattle.seats.specs.Judging.{Judges};
+ghost use Rattle.seated.specs.Judging.{Judges};
 
 // The target, or a bit of the control mask, is n or more: for n up to 24, which a shift need not ask of any other.
 fn far(n: u32, target: u32, ones: u32) -> bool

@@ -18,7 +18,7 @@ use Rattle.book.specs.declared.Answer.{Answer}
 use Rattle.book.specs.declared.Record.{Record}
 use Rattle.book.specs.declared.Refusal.{Refusal}
 use Rattle.book.specs.declared.Reply.{Reply}
-use Rattle.judging.specs.Judging.{verdict, Judges}
+use Rattle.seated.specs.Judging.{verdict, Judges}
 use Rattle.standing.specs.Stands.{Counts, behind, Passes}
 use Rattle.standing.specs.declared.Counted.{Counted}
 use Rattle.sessions.specs.Deliveries.{meant, resumed, told, unsized, Delivers}

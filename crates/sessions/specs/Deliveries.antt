@@ -4,7 +4,7 @@ use mathlib.Core.Path.{_≡_}
 use Rattle.book.specs.Answers.{numberOf, Replied, replies, Gives, gives, denied, first, Buffers}
 use Rattle.book.specs.Kernels.{sizeTests}
 use Rattle.book.specs.Sessions as Book
-use Rattle.judging.specs.Judging.{verdict}
+use Rattle.seated.specs.Judging.{verdict}
 use Rattle.standing.specs.Stands.{behind}
 use Rattle.standing.specs.declared.Counted.{Counted}
 use Rattle.sessions.specs.declared.Delivered.{Delivered}

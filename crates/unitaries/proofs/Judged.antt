@@ -21,8 +21,8 @@ use Rattle.book.specs.declared.Answer.{Answer}
 use Rattle.book.specs.declared.Answer.the-variants.{Taken, Refused}
 use Rattle.book.specs.declared.Matrix.{Matrix}
 use Rattle.book.specs.declared.Refusal.the-variants.{Size, Length, Qubit}
-use Rattle.judging.proofs.Judged.{passed, judged-then, keeps, works}
-use Rattle.judging.specs.Judging.{Judges, firstOf, freeTests}
+use Rattle.seated.proofs.Judged.{passed, judged-then, keeps, works}
+use Rattle.seated.specs.Judging.{Judges, firstOf, freeTests}
 use Rattle.matrices.proofs.Fills.{whole}
 use Rattle.matrices.proofs.Judged.{most-is, shift-fits, held-places, wrong-size, wrong-length, right}
 use Rattle.matrices.proofs.Sides.{shifted, side-is, side-le, side-some, square-fits}

@@ -15,7 +15,7 @@ ghost use Rattle.book.specs.Answers.{Does};
 ghost use Rattle.book.specs.Gates.{finiteTests};
 ghost use Rattle.book.specs.Lent.{before, after};
 ghost use Rattle.book.specs.Matrices.{entries, numbersOf, matrixTests, gateMatrix, conjugateTranspose};
-ghost use Rattle.judging.specs.Judging.{Judges, freeTests};
+ghost use Rattle.seated.specs.Judging.{Judges, freeTests};
 
 // Tests 1 to 3 of a gate's matrix.
 fn seat(reals: &[f64], imags: &[f64], n: u32, target: u32) -> Answer

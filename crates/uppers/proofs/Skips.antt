@@ -15,7 +15,7 @@ use Rattle.book.specs.declared.Controls.{Controls}
 use Rattle.fed.specs.Named.{upperOf}
 use Rattle.halves.specs.Halves.{picked, turnedAt, HalfTurned}
 use Rattle.halves.proofs.Picks.{unchosen}
-use Rattle.judging.specs.Judging.{Seated}
+use Rattle.seated.specs.Judging.{Seated}
 use Rattle.pairs.specs.Pairs.{Has}
 use Rattle.pairs.proofs.Bits.{or-ge, or-covers, next-block}
 use Rattle.pairs.proofs.Halves.{turn-same, Blocks, blocks-start, blocks-skip, blocks-room, blocks-steps}

@@ -10,7 +10,7 @@ ghost use Rattle.book.specs.Lent.{before, after, here};
 ghost use Rattle.book.specs.State.{onPairs};
 ghost use Rattle.fed.specs.Named.{upperRule, upperGate};
 ghost use Rattle.halves.specs.Halves.{turnedAt};
-ghost use Rattle.judging.specs.Judging.{Seated};
+ghost use Rattle.seated.specs.Judging.{Seated};
 ghost use Rattle.pairs.specs.Pairs.{UppersTurned};
 ghost use Rattle.uppers.specs.Uppers.{Blocked};
 

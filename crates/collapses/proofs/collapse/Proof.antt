@@ -3,7 +3,7 @@ use Prim.Native.Nat.{_+_, _-_, _^_, _≤_, _<_}
 use mathlib.Core.Path.{_≡_}
 use native.Mathlib.Omega.{arith}
 use Rattle.book.specs.Answers.{buffers}
-use Rattle.judging.proofs.Shifts.{shl, shl-is}
+use Rattle.seated.proofs.Shifts.{shl, shl-is}
 use Rattle.pairs.proofs.Blocks.{place-fits, nearer}
 use Rattle.collapses.proofs.Stretches.{Collapsing, collapse-starts, block-room, lower-half, upper-half, block-done, collapse-ends}
 use Rattle.probabilities.proofs.Sums.{small}

@@ -1,6 +1,6 @@
 -- `judging::free_seat` meets its contract: without controls tests 3, 4 and 5 look at the target alone. Assumes nothing.
 use borrow.Author.Needs.{needs}
-use Rattle.judging.proofs.Seats.{free-judged}
+use Rattle.seated.proofs.Seats.{free-judged}
 use Rattle.judging.proofs.free_seat.Statement.{statement}
 use Rattle.judging.proofs.free_seat.Tie as tie
 

@@ -7,7 +7,7 @@ use denote.Ref.{now}
 use lib.Ieee.{Float}
 use Rattle.book.specs.Answers.{taken, refused, first}
 use Rattle.book.specs.Gates.{allFinite, finiteTests}
-use Rattle.judging.specs.Judging.{verdict}
+use Rattle.seated.specs.Judging.{verdict}
 use Rattle.judging.proofs.numbers.Statement.{statement}
 use Rattle.judging.proofs.numbers.Tie as tie
 

@@ -2,7 +2,7 @@
 use native.Mathlib.Nat.{mod-lt, zero-lt-suc}
 use borrow.Author.Needs.{needs}
 use borrow.Author.Tests.{le-leb, lt-leb}
-use Rattle.seats.proofs.Shifts.{shl-one}
+use Rattle.seated.proofs.Shifts.{shl-one}
 use Rattle.seats.proofs.far.Statement.{statement}
 use Rattle.seats.proofs.far.Tie as tie
 

@@ -3,7 +3,7 @@ use mathlib.Core.List.{_++_}
 use borrow.Author.Needs.{needs}
 use Rattle.book.specs.Lent.{here}
 use Rattle.book.specs.Matrices.{entries, matrixTests}
-use Rattle.judging.specs.Judging.{Judges}
+use Rattle.seated.specs.Judging.{Judges}
 use Rattle.unitaries.proofs.Judged.{work, gate-judged, gate-kept, shift-ok, ready, gate-filled}
 use Rattle.unitaries.proofs.from_single_qubit_gate.Statement.{statement}
 use Rattle.unitaries.proofs.from_single_qubit_gate.Tie as tie

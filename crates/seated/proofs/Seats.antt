@@ -15,7 +15,7 @@ use Rattle.book.specs.Kernels.{badSize, mostQubits, badLength, sizeTests, outsi
 use Rattle.book.specs.State.{bit, uncontrolled}
 use Rattle.book.specs.declared.Answer.{Answer}
 use Rattle.book.specs.declared.Controls.{Controls}
-use Rattle.judging.specs.Judging.{verdict, Judges, Seated, freeTests}
+use Rattle.seated.specs.Judging.{verdict, Judges, Seated, freeTests}
 
 zero-bit : (t m : ℕ) → eqb (bit t m) 1 ≡ false → bit t m ≡ 0
 zero-bit t m h = omega (arith, mod-lt (m / 2 ^ t) (zero-lt-suc 1), eqb-false (bit t m) 1 h)

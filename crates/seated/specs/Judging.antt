@@ -1,15 +1,23 @@
--- What a list of tests answers (from seats), and what holds of a call whose seat they let pass. Definitions only. Assumes nothing.
-use Prim.Native.Nat.{ℕ, _^_, _≤_, _<_}
+-- What a list of tests answers, and what holds of a call whose seat they let pass. Definitions only. Assumes nothing.
+use Prim.Native.Nat.{ℕ, zero, suc, _^_, _≤_, _<_}
 use mathlib.Core.List.{List, [], _∷_}
 use mathlib.Core.Path.{_≡_}
 use lib.Dec.{leb}
 use lib.ListN.{length}
-use Rattle.book.specs.Answers.{Test, _⇒_, Buffers}
+use Rattle.book.specs.Answers.{Said, taken, refused, says, Test, _⇒_, first, Buffers}
 use Rattle.book.specs.State.{bit}
 use Rattle.book.specs.declared.Answer.{Answer}
 use Rattle.book.specs.declared.Answer.the-variants.{Taken, Value, Refused}
 use Rattle.book.specs.declared.Controls.{Controls}
-pub use Rattle.seats.specs.Judging.{verdict, Judges}
+
+-- what a refusal's number says: 0 is none
+abbrev pub verdict : ℕ → Said
+verdict zero = taken
+verdict (suc k) = refused (suc k)
+
+-- the answer is that of the first test that applies, and Taken where none does
+pub record Judges (tests : List Test) (answer : Answer) : Type 0 where
+  pub is : says answer ≡ verdict (first tests)
 
 -- the first refusal of two answers
 abbrev pub firstOf : Answer → Answer → Answer

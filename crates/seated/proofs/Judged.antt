@@ -11,7 +11,7 @@ use Rattle.book.proofs.Refusals.{numbered, first-clear, first-stays}
 use Rattle.book.specs.Answers.{taken, says, Test, first, Buffers, Call, accepted, unless, outcomeOf, Does}
 use Rattle.book.specs.declared.Answer.{Answer}
 use Rattle.book.specs.declared.Answer.the-variants.{Taken, Value, Refused}
-use Rattle.judging.specs.Judging.{verdict, Judges, firstOf}
+use Rattle.seated.specs.Judging.{verdict, Judges, firstOf}
 
 -- ---- a verdict and its number
 

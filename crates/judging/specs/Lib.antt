@@ -1,2 +1,0 @@
--- What judging answers, and what holds of a call that it lets pass.
-pub mod Judging

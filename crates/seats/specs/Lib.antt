@@ -1,2 +1,0 @@
--- What the judge of a list of tests answers.
-pub mod Judging
