@@ -1,12 +1,13 @@
 -- A header and a frame by the tests of the code: the number that two or four bytes are, and what each failed test makes of a header. Assumes nothing.
-use Prim.Native.Nat.{ℕ, _+_, _*_, _≤_, _<_}
+use Prim.Native.Nat.{ℕ, _+_, _-_, _*_, _≤_, _<_}
 use native.Mathlib.Nat.{add-zero, zero-add}
 use native.Mathlib.Omega.{arith}
 use mathlib.Core.Bool.{Bool, true, false, _&&_}
 use mathlib.Core.Path.{_≡_, refl, ap, _∙_}
-use mathlib.Core.List.{List}
+use mathlib.Core.List.{List, _++_}
 use lib.Dec.{eqb}
-use lib.ListN.{length, take, drop, getD}
+use lib.ListN.{length, take, drop, getD, List·getD-append}
+use lib.Seq.{getD-append-add}
 use borrow.Author.Tests.{lt-ltb, le-ltb, eq-eqb, ne-eqb, le-leb, lt-leb}
 use Rattle.book.specs.Records.{number, starts}
 use Rattle.wire.proofs.Numbers.{number-more}
@@ -63,3 +64,14 @@ bad-small n session e = let z : _≡_ {A = ℕ} 0 1 = cc in absurd (omega arith)
 
 pub good-small : (m session n session′ : ℕ) → m ≤ 11 → Good m session ≡ Good n session′ → n ≤ 11
 good-small m session n session′ h e = let q : m ≡ n = cc in omega arith
+
+-- ---- a byte of two parts
+
+module _ (first second : List ℕ) (i : ℕ) where
+  pub in-first : i < length first → getD (first ++ second) i 0 ≡ getD first i 0
+  in-first h = List·getD-append first second 0 i h
+
+  pub in-second : length first ≤ i → getD (first ++ second) i 0 ≡ getD second (i - length first) 0
+  in-second h =
+      let e : i ≡ length first + (i - length first) = omega arith in
+      ap (λ (k : ℕ). getD (first ++ second) k 0) e ∙ getD-append-add first second (i - length first) 0

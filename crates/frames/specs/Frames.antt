@@ -1,6 +1,6 @@
 -- What the program reads: a header, then frames. Definitions only. Assumes nothing.
 use Prim.Native.Nat.{ℕ, _+_}
-use mathlib.Core.Bool.{Bool, cond, not}
+use mathlib.Core.Bool.{cond, not}
 use mathlib.Core.List.{List}
 use lib.Dec.{ltb, eqb}
 use lib.ListN.{length, take, drop, getD}
@@ -9,7 +9,7 @@ use Rattle.book.specs.Records.{number, mostBytes, starts}
 use Rattle.frames.specs.declared.Header.{Header}
 use Rattle.frames.specs.declared.Header.the-variants.{Good, Bad}
 use Rattle.frames.specs.declared.Next.{Next}
-use Rattle.frames.specs.declared.Next.the-variants.{Whole, Over, Cut, End, More}
+use Rattle.frames.specs.declared.Next.the-variants.{Whole, Over, Wrong, More}
 
 -- n is 1 to 11 in the program
 abbrev pub mostInProgram : ℕ
@@ -22,18 +22,14 @@ headerOf bs =
     (cond (badSize mostInProgram (getD bs 3 0)) Bad (Good (getD bs 3 0) (number (take 4 (drop 4 bs)))))
     Bad
 
--- a frame of which a part is there: more may come, and at the end of the input it is cut short
-abbrev pub unfinished : Bool → Next
-unfinished ended = cond ended Cut More
-
 -- a frame over 94 bytes is read past; any other is a delivery once it is whole
-abbrev pub sized : Bool → ℕ → ℕ → Next
-sized ended have len = cond (ltb mostBytes len) (Over len) (cond (ltb have (3 + len)) (unfinished ended) (Whole len))
+abbrev pub sized : ℕ → ℕ → Next
+sized have len = cond (ltb mostBytes len) (Over len) (cond (ltb have (3 + len)) More (Whole len))
 
--- 20, length, record: what the bytes behind the last frame are, of an input that has ended or may go on
-abbrev pub nextOf : Bool → List ℕ → Next
-nextOf ended bs =
-    cond (eqb (length bs) 0) (cond ended End More)
-    (cond (not (eqb (getD bs 0 0) 0x20)) Cut
-    (cond (ltb (length bs) 3) (unfinished ended)
-    (sized ended (length bs) (number (take 2 (drop 1 bs))))))
+-- 20, length, record: what the bytes behind the last frame begin with
+unfoldable pub nextOf : List ℕ → Next
+nextOf bs =
+    cond (eqb (length bs) 0) More
+    (cond (not (eqb (getD bs 0 0) 0x20)) Wrong
+    (cond (ltb (length bs) 3) More
+    (sized (length bs) (number (take 2 (drop 1 bs))))))

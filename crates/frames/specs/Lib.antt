@@ -1,2 +1,3 @@
--- What the program reads.
+-- What the program reads: the header and a frame, and the frames of a stream.
 pub mod Frames
+pub mod Streams

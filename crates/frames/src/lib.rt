@@ -1,9 +1,10 @@
-// What the program reads, over slices: the header, and the frame that comes next.
+// What the program reads, over slices: the header, and the frame that comes next. A frame may have come in two parts.
 ghost use mathlib.Core.Path.{_≡_};
 ghost use Prim.Native.Nat.{ℕ, _+_, _≤_, _<_};
-ghost use lib.ListN.{length, take, drop};
+ghost use mathlib.Core.List.{_++_};
+ghost use lib.ListN.{length, take, drop, getD};
 ghost use Rattle.book.specs.Records.{number};
-ghost use Rattle.frames.specs.Frames.{headerOf, nextOf, unfinished, sized};
+ghost use Rattle.frames.specs.Frames.{headerOf, nextOf, sized};
 use book::MOST_BYTES;
 
 // A header gives n and the session, or is bad.
@@ -12,13 +13,12 @@ pub enum Header {
     Bad,
 }
 
-// What the bytes behind the last frame are: a whole frame of so many bytes, one over 94 bytes that is read past, a frame cut short or a wrong tag,
-// the end of the input, or a frame of which more has to come.
+// What the bytes behind the last frame begin with: a whole frame of so many bytes, one over 94 bytes that is read past, a wrong tag, or a frame of which
+// more has to come.
 pub enum Next {
     Whole(usize),
     Over(usize),
-    Cut,
-    End,
+    Wrong,
     More,
 }
 
@@ -71,42 +71,48 @@ pub fn read_header(bytes: &[u8]) -> Header
     Header::Good(qubits, session)
 }
 
-fn unfinished(ended: bool) -> Next
-    ensures { λ r. ⌜ r ≡ unfinished ended ⌝ }
-{
-    if ended { Next::Cut } else { Next::More }
-}
-
 // A frame of this length, of which so many bytes are there, tag and length with them.
-fn sized(ended: bool, have: usize, len: u64) -> Next
+fn sized(have: usize, len: u64) -> Next
     requires { ⌜ len < 65536 ⌝ }
-    ensures { λ r. ⌜ r ≡ sized ended have len ⌝ }
+    ensures { λ r. ⌜ r ≡ sized have len ⌝ }
 {
     let contents = len as usize;
     if MOST_BYTES < contents {
         return Next::Over(contents);
     }
     if have < 3 + contents {
-        return unfinished(ended);
+        return Next::More;
     }
     Next::Whole(contents)
 }
 
-pub fn next_frame(bytes: &[u8], ended: bool) -> Next
-    ensures { λ r. ⌜ r ≡ nextOf ended (now (bytes .entry)) ⌝ }
+// A byte of a frame that came in two parts.
+fn byte_at(first: &[u8], second: &[u8], i: usize) -> u8
+    requires { ⌜ i < length (now first) + length (now second) ⌝ }
+    ensures { λ r. ⌜ r ≡ getD (now (first .entry) ++ now (second .entry)) i 0 ⌝ }
 {
-    let have = bytes.len();
+    let have = first.len();
+    if i < have {
+        return first[i];
+    }
+    second[i - have]
+}
+
+// The frame that the first bytes begin and the second go on with.
+pub fn next_frame(first: &[u8], second: &[u8]) -> Next
+    ensures { λ r. ⌜ r ≡ nextOf (now (first .entry) ++ now (second .entry)) ⌝ }
+{
+    let have = first.len() + second.len();
     if have == 0 {
-        if ended {
-            return Next::End;
-        }
         return Next::More;
     }
-    if bytes[0] != FRAME {
-        return Next::Cut;
+    if byte_at(first, second, 0) != FRAME {
+        return Next::Wrong;
     }
     if have < 3 {
-        return unfinished(ended);
+        return Next::More;
     }
-    sized(ended, have, two_at(bytes, 1))
+    let high = byte_at(first, second, 1) as u64;
+    let low = byte_at(first, second, 2) as u64;
+    sized(have, high * 256 + low)
 }

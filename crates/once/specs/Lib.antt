@@ -1,2 +1,3 @@
--- Exactly-once as the contract of a function that makes deliveries.
+-- What deliveries one after the other answer, and exactly-once as the contract of a function that makes them.
+pub mod Answered
 pub mod AllOnce

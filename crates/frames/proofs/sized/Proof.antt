@@ -8,8 +8,8 @@ use Rattle.frames.proofs.sized.Tie as tie
 
 returns-2 : tie.Need-returns-2
 returns-2 c =
-    let a = c .before .before .before .args in
-    rw (le-ltb mostBytes (a .len) (c .before .before .if1 .left), lt-ltb (a .have) (3 + a .len) (c .before .if2 .taken)) (c .unfinished .ensures)
+    let a = c .before .before .args in
+    rw (le-ltb mostBytes (a .len) (c .before .if1 .left), lt-ltb (a .have) (3 + a .len) (c .if2 .taken))
 
 returns-3 : tie.Need-returns-3
 returns-3 c =
@@ -22,6 +22,5 @@ sized-spec =
     (tie.spec
     (λ c. rw (lt-ltb mostBytes (c .before .args .len) (c .if1 .taken)))
     (λ c. search needs)
-    (λ c κs. search needs)
     returns-2
     returns-3)

@@ -1,0 +1,2 @@
+-- What is kept between two pieces, and the contract of gathering.
+pub mod Gathering
