@@ -1,2 +1,3 @@
--- What the proofs of this crate share.
+-- Reading: a header by the tests of the code. Nexts: what bytes begin with. Streams: a stream cut anywhere.
 mod Reading
+pub mod Nexts
