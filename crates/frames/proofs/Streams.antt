@@ -1,6 +1,7 @@
 -- A stream cut anywhere gives what it gives whole: a step that completes a frame is the same with more bytes behind, and one that does not goes on in the next
 -- piece where it stopped. Assumes nothing.
 use Prim.Native.Nat.{ℕ, zero, suc, _+_, _-_, _≤_, _<_}
+use native.Mathlib.Nat.{sub-zero}
 use native.Mathlib.Omega.{arith}
 use mathlib.Core.Bool.{Bool, true, false}
 use mathlib.Core.List.{List, [], _∷_, _++_, append-assoc, append-nil}
@@ -221,7 +222,7 @@ stepped r bs e = stream-steps r bs ∙ ap (λ (s : Step). goesOn (s .due) (s .re
 step-none : (r : Rest) → Settled r → step r [] ≡ waiting [] r
 unfolding step
 step-none (begun h) s = frame h [] (ap nextOf (append-nil h) ∙ s) ∙ ap (λ (l : List ℕ). waiting [] (begun l)) (append-nil h)
-step-none (passing k) s = past-waits k [] s
+step-none (passing k) s = past-waits k [] s ∙ ap (λ (l : ℕ). waiting [] (passing l)) (sub-zero k)
 step-none stopped s = refl
 
 pub stream-none : (r : Rest) → Settled r → streamOf r [] ≡ ends r
@@ -230,7 +231,6 @@ stream-none r s = stepped r [] (step-none r s)
 -- ---- cut in two
 
 infix 40 _andThen_
-
 -- a stream, and what more bytes give behind it
 abbrev pub _andThen_ : Stream → List ℕ → Stream
 first andThen ys =
