@@ -228,6 +228,20 @@ step-none stopped s = refl
 pub stream-none : (r : Rest) → Settled r → streamOf r [] ≡ ends r
 stream-none r s = stepped r [] (step-none r s)
 
+-- each delivery takes a byte at least
+few-in : (f : ℕ) (r : Rest) (bs : List ℕ) → Settled r → length (streamIn f r bs .deliveries) ≤ length bs
+few-in zero r bs s = omega arith
+few-in (suc f) r bs s = by (behind r bs) (λ k. few-in f (begun []) (drop k bs) none-begun)
+  where
+    by : Behind r bs → ((k : ℕ) → length (streamIn f (begun []) (drop k bs) .deliveries) ≤ length (drop k bs))
+        → length (streamIn (suc f) r bs .deliveries) ≤ length bs
+    by (done k contents e m pos on) rest = let used = pos s in rw e (omega (arith, rest k, length-drop k bs))
+    by (waits r′ e keeps on) rest = rw e (omega arith)
+
+pub stream-few : (r : Rest) (bs : List ℕ) → Settled r → length (streamOf r bs .deliveries) ≤ length bs
+unfolding streamOf
+stream-few r bs s = few-in (suc (length bs)) r bs s
+
 -- ---- cut in two
 
 infix 40 _andThen_
