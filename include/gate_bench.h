@@ -6,8 +6,9 @@
  *             (GATE_BENCH_REFUSED_...), a later one may give more
  *   256       AGAIN: a delivery's record was run before, and nothing has changed
  *   768 + v   taken, with the value v (0 or 1) of a measurement or a bit flip
+ *   1024      gate_bench_feed alone: no frame is complete yet; 1025: and none will be, a wrong tag came
  * 512 + v is kept for later, for an AGAIN that tells a value v. So a caller that is to outlive this archive asks in this order:
- * 0 taken, below 256 refused, below 768 AGAIN, else a value. A record's writing alone answers with a size (see there).
+ * 0 taken, below 256 refused, below 768 AGAIN, below 1024 a value. A record's writing alone answers with a size (see there).
  * A state of n qubits is two buffers of 2^n doubles, real and imaginary parts; a matrix two of 4^n, row by row.
  * A slice is passed as a pointer and a length in elements. What the caller answers for: the pointer is not NULL and is
  * aligned, that many elements are there, nothing that a call writes overlaps another of its buffers, and no other thread
@@ -43,7 +44,9 @@ enum gate_bench_answer {
     GATE_BENCH_REFUSED_ROOM = 12,
     GATE_BENCH_AGAIN = 256,
     GATE_BENCH_VALUE_0 = 768,
-    GATE_BENCH_VALUE_1 = 769
+    GATE_BENCH_VALUE_1 = 769,
+    GATE_BENCH_WAITING = 1024,
+    GATE_BENCH_STOPPED = 1025
 };
 
 /* ---- sessions */
@@ -55,6 +58,21 @@ uint32_t gate_bench_start(uint32_t n, uint32_t number);
  * higher. A lower number answers 256, a higher one 10. Refusals in the order 1, 2, 8, 9, 11, (256), 10, 3 to 7. */
 uint32_t gate_bench_deliver(uint32_t n, uint32_t number, uint16_t *count, const uint8_t *bytes, size_t bytes_len, double *reals,
                             size_t reals_len, double *imags, size_t imags_len);
+
+/* ---- bytes as they come, from a socket or a serial line */
+
+/* The most bytes of a frame that are held between two calls. */
+#define GATE_BENCH_HELD 97
+
+/* A stream of frames (20, a length of two bytes, a record) in pieces of any size: nothing, a part of a frame, or several frames and
+ * a part. A call uses the piece up to the end of the first frame that it completes, delivers that as gate_bench_deliver does, and
+ * answers the same; *used says how many bytes it took, and those behind are for the next call. Where the piece completes no frame
+ * all of it is used: 1024, or 1025 behind a wrong tag, where no later byte changes anything. A frame over 94 bytes is read past and
+ * answered 8 when its last byte has come. Between two calls the caller keeps *kept, 0 at first, and the 97 bytes at held, whose
+ * first contents do not matter; a frame that stands whole in its piece is delivered from there. If the input ends while *kept is
+ * not 0, it was cut inside a frame or had a wrong tag. */
+uint32_t gate_bench_feed(uint32_t n, uint32_t number, uint16_t *count, uint32_t *kept, uint8_t *held, const uint8_t *piece,
+                         size_t piece_len, size_t *used, double *reals, size_t reals_len, double *imags, size_t imags_len);
 
 /* ---- gates: ones has a bit set for each control */
 
@@ -196,6 +214,34 @@ static inline uint32_t gate_bench_session_start(struct gate_bench_session *sessi
 static inline uint32_t gate_bench_session_deliver(struct gate_bench_session *session, const uint8_t *bytes, size_t bytes_len,
                                                   double *reals, double *imags, size_t places) {
     return gate_bench_deliver(session->n, session->number, &session->count, bytes, bytes_len, reals, places, imags, places);
+}
+
+/* ---- for convenience: a stream, its session and what is kept of it between two pieces */
+
+struct gate_bench_stream {
+    struct gate_bench_session session;
+    uint32_t kept;
+    uint8_t held[GATE_BENCH_HELD];
+};
+
+/* 0 and a stream of which nothing has come, or 1 and the stream as it was. */
+static inline uint32_t gate_bench_stream_start(struct gate_bench_stream *stream, uint32_t n, uint32_t number) {
+    uint32_t answer = gate_bench_session_start(&stream->session, n, number);
+    if (answer == GATE_BENCH_TAKEN)
+        stream->kept = 0;
+    return answer;
+}
+
+/* The next answer that a piece gives; call again with the piece from *used on until it is 1024 or 1025. */
+static inline uint32_t gate_bench_stream_take(struct gate_bench_stream *stream, const uint8_t *piece, size_t piece_len, size_t *used,
+                                              double *reals, double *imags, size_t places) {
+    return gate_bench_feed(stream->session.n, stream->session.number, &stream->session.count, &stream->kept, stream->held, piece,
+                           piece_len, used, reals, places, imags, places);
+}
+
+/* Whether an input that ends here is cut: inside a frame, or behind a wrong tag. */
+static inline int gate_bench_stream_is_cut(const struct gate_bench_stream *stream) {
+    return stream->kept != 0;
 }
 
 #ifdef __cplusplus

@@ -1,7 +1,7 @@
 #!/usr/bin/env python3
 """Holds include/gate_bench.h and rust/gate_bench/src/ffi.rs to the exported functions of crates/c_api.
 
-A parameter `&[T]` or `&mut [T]` of an exported function is a pointer and a length in elements, `&mut T` a pointer. Each
+A parameter `&[T]` or `&mut [T]` of an exported function is a pointer and a length in elements, `&mut T` and `&mut [T; N]` a pointer. Each
 function's declaration is worked out from its Rattle signature and looked for, with names and types in order.
 """
 import glob
@@ -30,12 +30,12 @@ def exported():
 def parts(params):
     """Each parameter as (name, pointed-to or plain type, 'mut', 'const' or '')."""
     for name, kind in params:
-        m = re.fullmatch(r'&(mut )?(\[)?(\w+)\]?', kind)
+        m = re.fullmatch(r'&(mut )?(\[)?(\w+)(; \w+)?\]?', kind)
         if not m:
             yield name, kind, ''
             continue
         yield name, m[3], 'mut' if m[1] else 'const'
-        if m[2]:
+        if m[2] and not m[4]:
             yield name + '_len', 'usize', ''
 
 

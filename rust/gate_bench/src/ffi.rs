@@ -40,6 +40,8 @@ mod declared {
         pub fn gate_bench_start(n: u32, number: u32) -> u32;
         pub fn gate_bench_deliver(n: u32, number: u32, count: *mut u16, bytes: *const u8, bytes_len: usize, reals: *mut f64,
             reals_len: usize, imags: *mut f64, imags_len: usize) -> u32;
+        pub fn gate_bench_feed(n: u32, number: u32, count: *mut u16, kept: *mut u32, held: *mut u8, piece: *const u8, piece_len: usize,
+            used: *mut usize, reals: *mut f64, reals_len: usize, imags: *mut f64, imags_len: usize) -> u32;
         pub fn gate_bench_read_record(bytes: *const u8, bytes_len: usize, fields: *mut u32, fields_len: usize, numbers: *mut f64,
             numbers_len: usize) -> u32;
         pub fn gate_bench_write_record(fields: *const u32, fields_len: usize, numbers: *const f64, numbers_len: usize, out: *mut u8,
@@ -131,6 +133,13 @@ pub fn start(n: u32, number: u32) -> u32 {
 pub fn deliver(n: u32, number: u32, count: &mut u16, bytes: &[u8], reals: &mut [f64], imags: &mut [f64]) -> u32 {
     unsafe { declared::gate_bench_deliver(n, number, count, bytes.as_ptr(), bytes.len(), reals.as_mut_ptr(), reals.len(),
         imags.as_mut_ptr(), imags.len()) }
+}
+
+/// The bytes that are held: 97, as the archive's function takes them.
+pub fn feed(n: u32, number: u32, count: &mut u16, kept: &mut u32, held: &mut [u8; 97], piece: &[u8], used: &mut usize, reals: &mut [f64],
+    imags: &mut [f64]) -> u32 {
+    unsafe { declared::gate_bench_feed(n, number, count, kept, held.as_mut_ptr(), piece.as_ptr(), piece.len(), used, reals.as_mut_ptr(),
+        reals.len(), imags.as_mut_ptr(), imags.len()) }
 }
 
 pub fn read_record(bytes: &[u8], fields: &mut [u32], numbers: &mut [f64]) -> u32 {

@@ -45,6 +45,7 @@ mod gates;
 mod matrices;
 mod records;
 mod sessions;
+mod streams;
 
 pub use answers::{Answer, Refusal, Reply};
 pub use environment::environment_is_default;
@@ -55,6 +56,7 @@ pub use gates::{
 pub use matrices::{apply_unitary, conj_t, from_single_qubit_gate, multiply, Amplitude};
 pub use records::{read_record, write_record, Gate, Record, RECORD_MOST};
 pub use sessions::Session;
+pub use streams::Stream;
 
 /// F: x·y + z, rounded once. Where it is a NaN, its bits are 7FF8000000000000; so are the root's.
 pub fn fused(x: f64, y: f64, z: f64) -> f64 {

@@ -31,6 +31,11 @@ impl Session {
         Reply::of(ffi::deliver(self.n, self.number, &mut self.count, bytes, reals, imags))
     }
 
+    /// A piece of a stream: `Stream` keeps what is left of it.
+    pub(crate) fn feed(&mut self, kept: &mut u32, held: &mut [u8; 97], piece: &[u8], used: &mut usize, reals: &mut [f64], imags: &mut [f64]) -> u32 {
+        ffi::feed(self.n, self.number, &mut self.count, kept, held, piece, used, reals, imags)
+    }
+
     pub fn n(&self) -> u32 {
         self.n
     }

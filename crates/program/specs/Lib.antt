@@ -1,0 +1,2 @@
+-- What the program prints of its input.
+pub mod Program

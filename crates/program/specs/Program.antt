@@ -1,0 +1,36 @@
+-- What the program prints, from its input's bytes alone; and what a piece of the input adds. Definitions only. Assumes nothing.
+use Prim.Native.Nat.{ℕ, _+_, _-_, _%_, _^_}
+use mathlib.Core.List.{List, [], _∷_, _++_}
+use mathlib.Core.Path.{_≡_}
+use lib.Ieee.{Float}
+use lib.ListN.{length, drop, replicate}
+use Rattle.book.specs.Answers.{Buffers, buffers}
+use Rattle.book.specs.Sessions.{Session, session, deliverAll}
+use Rattle.feeding.specs.Feeding.{Form, cuts, TakesAll}
+use Rattle.frames.specs.Frames.{headerOf}
+use Rattle.frames.specs.Streams.{begun, streamOf}
+use Rattle.frames.specs.declared.Header.{Header}
+use Rattle.frames.specs.declared.Header.the-variants.{Good, Bad}
+use Rattle.once.specs.AllOnce.{bench}
+use Rattle.once.specs.Answered.{Answered, answersOf}
+use Rattle.printing.specs.Printed.{answerLines, closing, Put}
+use Rattle.stream.specs.Lines.{badHeaderLine}
+
+-- real 1 at index 0, in n qubits
+abbrev pub firstState : ℕ → Buffers
+firstState n = buffers (one ∷ replicate (2 ^ n - 1) zero) (replicate (2 ^ n) zero)
+
+-- behind a header: a D line for each delivery, CUT, the A lines, END
+abbrev pub linesOf : Session → Buffers → List ℕ → List ℕ
+linesOf s b bytes =
+    let st = streamOf (begun []) bytes in
+    let end = deliverAll (bench s b) (st .deliveries) in
+    answerLines 0 (answersOf (bench s b) (st .deliveries)) ++ closing (cuts (st .rest)) (end .session) (end .state)
+
+-- or BAD HEADER alone
+abbrev pub printedBy : Header → List ℕ → List ℕ
+printedBy (Good n own) bytes = linesOf (session n own 0) (firstState n) bytes
+printedBy Bad bytes = badHeaderLine
+
+unfoldable pub printed : List ℕ → List ℕ
+printed input = printedBy (headerOf input) (drop 8 input)
