@@ -3,12 +3,13 @@
 use frames::Next;
 use frames::next_frame;
 ghost use mathlib.Core.List.{List, _++_};
+ghost use mathlib.Core.Option.{some};
 ghost use mathlib.Core.Path.{_≡_};
 ghost use Prim.Native.Nat.{ℕ, _+_, _<_};
 ghost use Rattle.frames.specs.Frames.{nextOf};
-ghost use Rattle.frames.specs.Streams.{past, step, begun};
+ghost use Rattle.frames.specs.Streams.{Rest, begun, waiting as waits, complete as completes, past, step};
 ghost use Rattle.frames.specs.declared.Next.the-variants.{More};
-ghost use Rattle.gathering.specs.Gathering.{restOf, bytesOf, Gathers};
+ghost use Rattle.gathering.specs.Gathering.{restOf, keptOf, bytesOf, dueOf, Gathers};
 
 // The number that is kept: below this, that so many bytes of a frame are held; this, that a wrong tag came; above it, how many bytes more of an over-long frame
 // are still to be read past. So at most 97 bytes are held: a frame's tag, its length and 94 bytes.
@@ -29,7 +30,9 @@ pub struct Gathered {
 }
 
 // No frame is complete, and all of the piece is used.
-fn waiting(piece: &[u8], kept: u32) -> Gathered {
+fn waiting(piece: &[u8], kept: u32) -> Gathered
+    ensures { λ r. ⌜ ((rest : Rest) (bs : List ℕ) → kept ≡ keptOf rest → Gathers (waits (now (piece .entry)) rest) bs r) ⌝ }
+{
     Gathered {
         used: piece.len(),
         kept,
@@ -38,7 +41,9 @@ fn waiting(piece: &[u8], kept: u32) -> Gathered {
 }
 
 // A frame is complete behind so many bytes of the piece.
-fn complete(used: usize, due: Due) -> Gathered {
+fn complete(used: usize, due: Due) -> Gathered
+    ensures { λ r. ⌜ ((bs contents : List ℕ) → dueOf due bs ≡ some contents → Gathers (completes used contents) bs r) ⌝ }
+{
     Gathered { used, kept: 0, due }
 }
 
@@ -79,8 +84,9 @@ pub fn gather(held: &[u8; 97], kept: u32, piece: &[u8]) -> Gathered
         return waiting(piece, STOPPED);
     }
     let have = kept as usize;
-    let first = &held[0..have];
-    match next_frame(first, &piece[0..0]) {
+    let all = &held[..];
+    let first = &all[..have];
+    match next_frame(first, &piece[..0]) {
         Next::More => go_on(first, piece),
         _ => waiting(piece, STOPPED),
     }

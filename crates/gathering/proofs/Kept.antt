@@ -1,0 +1,119 @@
+-- What is kept between two pieces: that what is kept of a step stands for the step's rest, and nothing else does. By what each answer of `nextOf` tells of the
+-- bytes, and by the tests on the number that is kept. Assumes nothing.
+use Prim.Native.Nat.{ℕ, zero, suc, _+_, _-_, _≤_, _<_}
+use native.Mathlib.Omega.{arith}
+use mathlib.Core.Bool.{Bool, true, false}
+use mathlib.Core.List.{List, [], _∷_, _++_}
+use mathlib.Core.Path.{_≡_, refl, sym, ap, _∙_}
+use denote.Enum.Declared.{tagOf}
+use types.Run.{OneOf, miss}
+use lib.Dec.{eqb, ltb}
+use lib.ListN.{length, take, drop, getD, length-append, length-drop}
+use lib.Seq.{take-append-le, drop-append-le, take-append-seam, length-take-le}
+use borrow.Author.Tests.{lt-ltb, le-ltb, eq-eqb, ne-eqb, ltb-true, ltb-false, eqb-true, eqb-false}
+use Rattle.book.specs.Records.{number, mostBytes}
+use Rattle.frames.proofs.Next as Cases
+use Rattle.frames.proofs.Nexts.{lengthOf, next-none, next-wrong, next-short, next-sized}
+use Rattle.frames.specs.Frames.{sized, nextOf}
+use Rattle.frames.specs.Streams.{Rest, begun, passing, stopped, Step}
+use Rattle.frames.specs.declared.Next.{Next}
+use Rattle.frames.specs.declared.Next.the-variants.{Whole, Over, Wrong, More}
+use Rattle.wire.specs.Bytes.{Bytes}
+use Rattle.gathering.specs.Gathering.{restOf, keptOf, bytesOf, heldOf, dueOf, Gathers, ifBegun, mostHeld}
+use Rattle.gathering.specs.declared.Gathered.{Gathered}
+
+-- ---- what each answer tells of the bytes
+
+abbrev pub Tells : List ℕ → Next → Type 0
+Tells bs (Whole len) = len ≡ lengthOf bs
+Tells bs (Over len) = len ≡ lengthOf bs
+Tells bs Wrong = Unit
+Tells bs More = (length bs < mostHeld) × (3 ≤ length bs → length bs < 3 + lengthOf bs)
+
+module _ (bs : List ℕ) where
+  few : length bs < 3 → Tells bs More
+  few h = (omega arith, λ l. omega arith)
+
+  tells : Tells bs (nextOf bs)
+  tells = at-all (eqb (length bs) 0) refl
+    where
+      long : (o p : Bool) → ltb mostBytes (lengthOf bs) ≡ o → ltb (length bs) (3 + lengthOf bs) ≡ p → Tells bs (sized (length bs) (lengthOf bs))
+      long true p e f = rw e refl
+      long false true e f =
+          let most = ltb-false mostBytes (lengthOf bs) e in
+          let part = ltb-true (length bs) (3 + lengthOf bs) f in
+          rw (e, f) (omega arith, λ l. part)
+      long false false e f = rw (e, f) refl
+
+      tagged : (length bs ≡ 0 → ⊥) → getD bs 0 0 ≡ 0x20 → (t : Bool) → ltb (length bs) 3 ≡ t → Tells bs (nextOf bs)
+      tagged s t true e = rw (next-short bs s t (ltb-true (length bs) 3 e)) (few (ltb-true (length bs) 3 e))
+      tagged s t false e =
+          rw (next-sized bs s t (ltb-false (length bs) 3 e)) (long (ltb mostBytes (lengthOf bs)) (ltb (length bs) (3 + lengthOf bs)) refl refl)
+
+      there : (length bs ≡ 0 → ⊥) → (t : Bool) → eqb (getD bs 0 0) 0x20 ≡ t → Tells bs (nextOf bs)
+      there s true e = tagged s (eqb-true (getD bs 0 0) 0x20 e) (ltb (length bs) 3) refl
+      there s false e = rw (next-wrong bs s (eqb-false (getD bs 0 0) 0x20 e)) tt
+
+      at-all : (t : Bool) → eqb (length bs) 0 ≡ t → Tells bs (nextOf bs)
+      at-all true e = let z = eqb-true (length bs) 0 e in rw (next-none bs z) (few (omega arith))
+      at-all false e = there (eqb-false (length bs) 0 e) (eqb (getD bs 0 0) 0x20) refl
+
+  pub told : {x : Next} → nextOf bs ≡ x → Tells bs x
+  told e = rw (← e) tells
+
+-- ---- the length of a frame that goes on
+
+small : (bs : List ℕ) → Bytes bs → lengthOf bs < 65536
+small [] h = omega arith
+small (t ∷ []) h = omega arith
+small (t ∷ a ∷ []) h = omega (arith, h 1)
+small (t ∷ a ∷ b ∷ bs) h = omega (arith, h 1, h 2)
+
+bytes-append : (xs ys : List ℕ) → Bytes xs → Bytes ys → Bytes (xs ++ ys)
+bytes-append [] ys h l i = l i
+bytes-append (x ∷ xs) ys h l zero = h 0
+bytes-append (x ∷ xs) ys h l (suc i) = bytes-append xs ys (λ j. h (suc j)) l i
+
+-- the bytes that are there are of the frame, and its length is a number of two bytes
+pub record Fits (h : List ℕ) (len : ℕ) : Type 0 where
+  pub within : length h ≤ 3 + len
+  pub two : len < 65536
+
+module _ (h bs : List ℕ) where
+  same-length : 3 ≤ length h → lengthOf (h ++ bs) ≡ lengthOf h
+  same-length l =
+      let room : 2 ≤ length (drop 1 h) = omega (arith, length-drop 1 h) in
+      ap (λ (l : List ℕ). number (take 2 l)) (drop-append-le 1 h bs (omega arith)) ∙ ap number (take-append-le 2 (drop 1 h) bs room)
+
+  room : nextOf h ≡ More → (t : Bool) → ltb (length h) 3 ≡ t → length h ≤ 3 + lengthOf (h ++ bs)
+  room more true e = omega (arith, ltb-true (length h) 3 e)
+  room more false e = let l = ltb-false (length h) 3 e in omega (arith, told h more .1 l, same-length l)
+
+  pub goes-on : {len : ℕ} → nextOf h ≡ More → Bytes h → Bytes bs → len ≡ lengthOf (h ++ bs) → Fits h len
+  goes-on more b c is =
+      record {
+        within = omega (arith, room more (ltb (length h) 3) refl);
+        two = omega (arith, small (h ++ bs) (bytes-append h bs b c));
+      }
+
+-- ---- what a number and 97 bytes stand for, test by test
+
+module _ (held : List ℕ) (kept : ℕ) where
+  pub rest-passing : mostHeld < kept → restOf held kept ≡ passing (kept - mostHeld)
+  unfolding restOf
+  rest-passing h = rw (le-ltb kept mostHeld (omega arith), ne-eqb kept mostHeld (λ e. omega arith))
+
+  pub rest-stopped : kept ≡ mostHeld → restOf held kept ≡ stopped
+  unfolding restOf
+  rest-stopped e = rw (le-ltb kept mostHeld (omega arith), eq-eqb kept mostHeld e)
+
+  pub rest-held : {x : Next} → kept < mostHeld → nextOf (take kept held) ≡ x → restOf held kept ≡ ifBegun x (take kept held)
+  unfolding restOf
+  rest-held h e = rw (lt-ltb kept mostHeld h, e)
+
+-- bytes that begin no frame count as a wrong tag
+pub no-begun : (x : Next) (h : List ℕ) → OneOf (0 ∷ 1 ∷ 2 ∷ []) (tagOf Cases.the-type x) → ifBegun x h ≡ stopped
+no-begun (Whole len) h k = refl
+no-begun (Over len) h k = refl
+no-begun Wrong h k = refl
+no-begun More h k = absurd (miss (0 ∷ 1 ∷ 2 ∷ []) 3 tt k)
