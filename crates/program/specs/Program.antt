@@ -6,7 +6,7 @@ use lib.Ieee.{Float}
 use lib.ListN.{length, drop, replicate}
 use Rattle.book.specs.Answers.{Buffers, buffers}
 use Rattle.book.specs.Sessions.{Session, session, deliverAll}
-use Rattle.feeding.specs.Feeding.{Form, cuts, TakesAll}
+use Rattle.feeding.specs.Feeding.{Form, formOf, cuts, TakesAll}
 use Rattle.frames.specs.Frames.{headerOf}
 use Rattle.frames.specs.Streams.{begun, streamOf}
 use Rattle.frames.specs.declared.Header.{Header}
@@ -15,6 +15,7 @@ use Rattle.once.specs.AllOnce.{bench}
 use Rattle.once.specs.Answered.{Answered, answersOf}
 use Rattle.printing.specs.Printed.{answerLines, closing, Put}
 use Rattle.stream.specs.Lines.{badHeaderLine}
+use Rattle.program.specs.declared.Running.{Running}
 
 -- real 1 at index 0, in n qubits
 abbrev pub firstState : ℕ → Buffers
@@ -34,3 +35,20 @@ printedBy Bad bytes = badHeaderLine
 
 unfoldable pub printed : List ℕ → List ℕ
 printed input = printedBy (headerOf input) (drop 8 input)
+
+-- ---- piece by piece
+
+-- what is known between two pieces: the number of the next delivery, and the form
+pub record Run : Type 0 where
+  pub index : ℕ
+  pub form : Form
+
+abbrev pub runOf : Running → Run
+runOf r = record { index = r .index; form = formOf (r .feed) }
+
+-- A piece of the input is taken, and the lines of its answers are put behind a place of the output.
+pub record Prints (x : Run) (b : Buffers) (piece before : List ℕ) (at : ℕ) (x′ : Run) (b′ : Buffers) (next : ℕ) (after : List ℕ) : Type 0 where
+  pub answers : List Answered
+  pub takes : TakesAll (x .form) b piece answers (x′ .form) b′
+  pub put : Put (answerLines (x .index) answers) before at next after
+  pub index : x′ .index ≡ (x .index + length answers) % 2 ^ 64
