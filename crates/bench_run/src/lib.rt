@@ -1,27 +1,18 @@
-// The whole program: reads a header and frames from its input, and prints the lines of document 01 to standard output. The input has
-// any size and comes in any pieces; one frame of it is kept. What is read is proved in frames, what is printed in stream, and what a
-// delivery does in sessions.
+// The program: reads a header and frames from its input, and writes the lines of document 01 to standard output. The input has any size and comes in any pieces.
+// Here it reads and writes; what it makes of what it read, and what it hands on to be written, is program's.
 ghost use Prim.Native.Nat.{_<_};
 
-mod gather;
-mod output;
-mod state;
-mod taker;
+mod turns;
 
+use feeding::Feed;
 use frames::Header;
-use frames::MOST_IN_PROGRAM;
-use gather::cut_short;
-use gather::empty;
-use output::Output;
-use output::flush;
-use sessions::Session;
-use sessions::Started;
-use state::print_state;
-use taker::Taker;
-use taker::take_chunk;
-
-// The places of the most qubits in the program.
-const MOST_PLACES: usize = 2048;
+use gathering::STOPPED;
+use program::MOST_PLACES;
+use program::OUT;
+use program::PIECE;
+use program::Running;
+use turns::closing;
+use turns::take_turn;
 
 // How a run ended, for whoever started the program.
 pub enum Ended {
@@ -31,64 +22,34 @@ pub enum Ended {
     Unwritten,
 }
 
+// Behind the last piece, and whether standard output took all that was written.
+struct Behind {
+    end: Running,
+    open: bool,
+}
+
 // What was not written comes first: a reader of the output cannot know of it.
 fn unless_lost(written: bool, as_read: Ended) -> Ended {
     if written { as_read } else { Ended::Unwritten }
 }
 
-// Only this line.
-fn bad_header() -> Ended {
-    let mut line = [0u8; 128];
-    let n = stream::bad_header_line(&mut line);
-    let written = io::write_all(libc::STDOUT_FILENO, &line[..n]);
-    unless_lost(written, Ended::BadHeader)
+fn behind_frames(feed: Feed) -> Ended {
+    if feed.is_cut() {
+        Ended::Cut
+    } else {
+        Ended::Whole
+    }
 }
 
-fn behind_frames(cut: bool) -> Ended {
-    if cut { Ended::Cut } else { Ended::Whole }
-}
-
-// Whether more is to be read: not behind the end of the input, a cut, or the end of the output.
-fn goes_on(got: usize, cut: bool, open: bool) -> bool {
+// Whether more is to be read: not behind the end of the input, a wrong tag, or the end of the output.
+fn goes_on(got: usize, kept: u32, open: bool) -> bool {
     if got == 0 {
         return false;
     }
-    if cut {
+    if kept == STOPPED {
         return false;
     }
     open
-}
-
-// What has been answered is written out before more is waited for.
-fn flushed(taker: Taker, got: usize, out: &[u8]) -> Taker {
-    let session = taker.session;
-    let gathering = taker.gathering;
-    let before = taker.output;
-    let output = flush(out, before);
-    let more = goes_on(got, gathering.cut, output.open);
-    Taker {
-        session,
-        index: taker.index,
-        gathering,
-        output,
-        more,
-    }
-}
-
-// One piece of the input, as long as it comes.
-fn take_piece(
-    input: i32,
-    start: Taker,
-    chunk: &mut [u8],
-    frame: &mut [u8],
-    reals: &mut [f64],
-    imags: &mut [f64],
-    out: &mut [u8],
-) -> Taker {
-    let read = libc::read(input, chunk);
-    let got = io::count(read, chunk);
-    let taken = take_chunk(&chunk[..got], start, frame, reals, imags, out);
-    flushed(taken, got, out)
 }
 
 // The turns that are left.
@@ -99,66 +60,57 @@ fn left(turns: u64, more: bool) -> u64
     if more { turns - 1 } else { 0 }
 }
 
-// Reads to the end. Nothing says that an input ends: the turns are counted down from a number that no run uses up.
-fn take_all(
-    input: i32,
-    start: Taker,
-    frame: &mut [u8],
-    reals: &mut [f64],
-    imags: &mut [f64],
-    out: &mut [u8],
-) -> Taker {
-    let mut space = io::large_buffer();
-    let chunk: &mut [u8] = &mut space;
-    let mut taker = start;
+// Reads to the end, and writes what has been answered before more is waited for. Nothing says that an input ends: the turns are counted down from a number that
+// no run uses up.
+fn take_input(input: i32, start: Running, reals: &mut [f64], imags: &mut [f64]) -> Behind {
+    let mut chunk = [0u8; PIECE];
+    let mut out = [0u8; OUT];
+    let mut end = start;
+    let mut open = true;
     let mut turns = u64::MAX;
     while 0 < turns {
-        taker = take_piece(input, taker, chunk, frame, reals, imags, out);
-        turns = left(turns, taker.more);
+        let turn = take_turn(input, end, &mut chunk, &mut out, reals, imags);
+        let at = turn.at;
+        open = io::write_all(libc::STDOUT_FILENO, &out[..at]);
+        end = turn.next;
+        let feed = end.feed;
+        turns = left(turns, goes_on(turn.got, feed.kept, open));
     }
-    taker
+    Behind { end, open }
+}
+
+// CUT, the A lines and END.
+fn write_closing(end: Running, reals: &[f64], imags: &[f64]) -> bool {
+    let mut out = [0u8; OUT];
+    let n = closing(end, reals, imags, &mut out);
+    io::write_all(libc::STDOUT_FILENO, &out[..n])
 }
 
 // The frames, and then the state behind them.
-fn run_session(input: i32, session: Session, reals: &mut [f64], imags: &mut [f64]) -> Ended {
-    let mut frame = [0u8; 97];
-    let mut out = io::large_buffer();
-    let start = Taker {
-        session,
-        index: 0,
-        gathering: empty(),
-        output: Output { at: 0, open: true },
-        more: true,
-    };
-    let end = take_all(input, start, &mut frame, reals, imags, &mut out);
-    let gathering = end.gathering;
-    let cut = cut_short(gathering, &frame);
-    let last = end.session;
-    let output = end.output;
-    let written = print_state(cut, last.count, reals, imags, &mut out, output);
-    unless_lost(written, behind_frames(cut))
+fn run_session(input: i32, start: Running, reals: &mut [f64], imags: &mut [f64]) -> Ended {
+    let behind = take_input(input, start, reals, imags);
+    let end = behind.end;
+    if behind.open {
+        let written = write_closing(end, reals, imags);
+        return unless_lost(written, behind_frames(end.feed));
+    }
+    Ended::Unwritten
 }
 
 // From state real 1 at index 0, with the places that a state of n qubits has.
-fn run_places(input: i32, session: Session, size: usize) -> Ended {
-    let mut reals = [0.0; MOST_PLACES];
+fn run_bench(input: i32, n: u32, number: u32) -> Ended {
+    let size: usize = 1 << n;
+    let mut reals = program::first_reals();
     let mut imags = [0.0; MOST_PLACES];
-    reals[0] = 1.0;
-    if MOST_PLACES < size {
-        return bad_header();
-    }
-    run_session(input, session, &mut reals[0..size], &mut imags[0..size])
+    run_session(input, program::start(n, number), &mut reals[0..size], &mut imags[0..size])
 }
 
-fn run_bench(input: i32, n: u32, number: u32) -> Ended {
-    let started = Session::start(n, number);
-    let Started::Fresh(session) = started else {
-        return bad_header();
-    };
-    if (MOST_IN_PROGRAM as u32) < n {
-        return bad_header();
-    }
-    run_places(input, session, 1 << n)
+// Only this line.
+fn bad_header() -> Ended {
+    let mut line = [0u8; 128];
+    let n = printing::put_bad_header(&mut line, 0);
+    let written = io::write_all(libc::STDOUT_FILENO, &line[..n]);
+    unless_lost(written, Ended::BadHeader)
 }
 
 // From an open descriptor: that of a stored run, or standard input.

@@ -1,8 +1,10 @@
 -- The contracts of the calls that tell an answer as one number. Definitions only. Assumes nothing.
 use Prim.Native.Nat.{ℕ}
-use mathlib.Core.List.{[], _∷_}
+use mathlib.Core.Bool.{cond}
+use mathlib.Core.List.{List, [], _∷_}
 use mathlib.Core.Option.{Option, some, none}
 use mathlib.Core.Path.{_≡_}
+use lib.Dec.{eqb}
 use lib.Ieee.{Float}
 use Rattle.answers.specs.Told.{saidNumber, repliedNumber}
 use Rattle.book.specs.Answers.{Buffers, Outcome, says, Does}
@@ -11,6 +13,9 @@ use Rattle.book.specs.State.{amplitude}
 use Rattle.book.specs.declared.Angles.{Angles}
 use Rattle.book.specs.declared.Answer.{Answer}
 use Rattle.book.specs.declared.Matrix.{Matrix}
+use Rattle.feeding.specs.Feeding.{Form, Takes}
+use Rattle.gathering.specs.Gathering.{mostHeld}
+use Rattle.once.specs.Answered.{Answered}
 
 -- a session that starts, or refusal 1
 abbrev pub startOf : Option Book.Session → ℕ
@@ -31,6 +36,17 @@ pub record TellsDelivery (d : Book.Delivery) (code count : ℕ) (after : Buffers
   pub answers : code ≡ repliedNumber (d .says)
   pub counts : count ≡ d .next .count
   pub leaves : after ≡ d .left
+
+-- what a piece is answered: what its delivery says; 1024 where no frame is complete, 1025 behind a wrong tag
+abbrev pub fedNumber : List Answered → ℕ → ℕ
+fedNumber [] kept = cond (eqb kept mostHeld) 1025 1024
+fedNumber (a ∷ more) kept = repliedNumber (a .says)
+
+-- The whole contract of a piece: the number returned, how many bytes were used, what the caller keeps, and every place of both buffers.
+pub record TellsFeed (f : Form) (b : Buffers) (piece : List ℕ) (code used : ℕ) (f′ : Form) (b′ : Buffers) : Type 0 where
+  pub told : List Answered
+  pub takes : Takes f b piece used told f′ b′
+  pub tells : code ≡ fedNumber told (f′ .kept)
 
 -- a gate's four entries, row by row
 abbrev pub fourEntries : Float → Float → Float → Float → Float → Float → Float → Float → Matrix
