@@ -3,7 +3,8 @@
 
   bench_model.py run < INPUT > OUTPUT        what the program must print
   bench_model.py make NAME [SEED] > INPUT    an input; `bench_model.py names` lists the names
-  bench_model.py store DIR [SEED]            all of them, as DIR/crates/gate_bench/stdin and stdout and DIR/crates/stored_runs/data, args and stdout
+  bench_model.py store DIR [SEED]            all of them, as DIR/crates/gate_bench/stdin and stdout and DIR/crates/stored_runs/data, args and stdout;
+                                             those that cut_streams takes apart as DIR/crates/cut_streams/data, args and stdout
 """
 import math, os, random, struct, sys
 
@@ -562,6 +563,21 @@ def store(crates, seed):
         put(os.path.join(crates, 'stored_runs', 'data'), name, data)
     put(os.path.join(crates, 'stored_runs'), 'args', ''.join(name + '\n' for name in made).encode())
     put(os.path.join(crates, 'stored_runs'), 'stdout', ''.join(name + ':\n' + answer(data) for name, data in made.items()).encode())
+    store_apart(crates, made)
+
+
+def store_apart(crates, made):
+    """The streams behind a good header that cut_streams has room for: how many bytes, cuts and answers each has, and that nothing differs."""
+    apart = os.path.join(crates, 'cut_streams')
+    kept = {name: data for name, data in made.items() if len(data) < 66210 and answer(data) != 'BAD HEADER\n'}
+    for name, data in kept.items():
+        put(os.path.join(apart, 'data'), name, data)
+    put(apart, 'args', ''.join(name + '\n' for name in kept).encode())
+    lines = []
+    for name, data in kept.items():
+        size, answers = len(data) - 8, sum(line.startswith('D ') for line in answer(data).splitlines())
+        lines.append(f'{name}: {size} bytes, {size + 1} cuts in two and one byte by byte, {answers} answers: 0 differ\n')
+    put(apart, 'stdout', ''.join(lines).encode())
 
 
 def main():
