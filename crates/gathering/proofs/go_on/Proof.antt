@@ -51,7 +51,8 @@ few c =
 returns : tie.Need-returns
 returns c =
     let next = c .before .before .before .before in
-    gathers next (c .before .before .len .given .1) (c .complete .ensures (bytes next) _ refl)
+    let is = c .before .before .len .given .1 in
+    gathers next is (c .complete .ensures (bytes next) _ refl (tells next is))
 
 returns-2 : tie.Need-returns-2
 returns-2 c =
