@@ -71,13 +71,32 @@ told bs = at-all (eqb (length bs) 0) refl
     at-all true e = rw (next-none bs (eqb-true (length bs) 0 e)) (nothing (eqb-true (length bs) 0 e))
     at-all false e = there (eqb-false (length bs) 0 e) (eqb (getD bs 0 0) 0x20) refl
 
+-- the same, for a caller who knows the answer
+abbrev pub Tells : List ℕ → Next → Type 0
+Tells bs (Whole len) = (len ≡ lengthOf bs) × (3 + len ≤ length bs)
+Tells bs (Over len) = len ≡ lengthOf bs
+Tells bs Wrong = Unit
+Tells bs More = length bs < 3 + mostBytes
+
+pub tells : (bs : List ℕ) {x : Next} → nextOf bs ≡ x → Tells bs x
+tells bs e = rw (← e) (by (told bs))
+  where
+    by : {x : Next} → Told bs x → Tells bs x
+    by (nothing e) = omega arith
+    by (wrong _ _) = tt
+    by (short _ h) = omega arith
+    by (part _ l h) = omega arith
+    by (over _ _ _) = refl
+    by (whole h _ _) = (refl, h)
+
 -- ---- more bytes behind
 
-abbrev waits : Next → ℕ
-waits More = 1
-waits Wrong = 0
-waits (Over len) = 0
-waits (Whole len) = 0
+-- a frame that is begun is not longer than what it tells
+abbrev Fits : List ℕ → List ℕ → Next → Type 0
+Fits bs ys More = length bs < 3 + lengthOf (bs ++ ys)
+Fits bs ys (Whole len) = Unit
+Fits bs ys (Over len) = Unit
+Fits bs ys Wrong = Unit
 
 module _ (bs ys : List ℕ) where
   behind-length : length (bs ++ ys) ≡ length bs + length ys
@@ -91,17 +110,16 @@ module _ (bs ys : List ℕ) where
       let room : 2 ≤ length (drop 1 bs) = omega (arith, length-drop 1 bs) in
       ap (λ (l : List ℕ). number (take 2 l)) (drop-append-le 1 bs ys (omega arith)) ∙ ap number (take-append-le 2 (drop 1 bs) ys room)
 
-  -- a frame that is begun is not longer than what it tells, once that has come
   pub room : nextOf bs ≡ More → length bs < 3 + lengthOf (bs ++ ys)
-  room more = by (told bs) more
+  room more = let fits : Fits bs ys (nextOf bs) = by (told bs) in rw more at fits
     where
-      by : {x : Next} → Told bs x → x ≡ More → length bs < 3 + lengthOf (bs ++ ys)
-      by (nothing e) _ = omega arith
-      by (short s h) _ = omega arith
-      by (part h l e) _ = omega (arith, same-length h)
-      by (wrong s t) e = absurd (omega (arith, ap waits e))
-      by (over h t l) e = absurd (omega (arith, ap waits e))
-      by (whole h t l) e = absurd (omega (arith, ap waits e))
+      by : {x : Next} → Told bs x → Fits bs ys x
+      by (nothing e) = omega arith
+      by (short s h) = omega arith
+      by (part h l e) = omega (arith, same-length h)
+      by (wrong s t) = tt
+      by (over h t l) = tt
+      by (whole h t l) = tt
 
   pub wrong-on : (length bs ≡ 0 → ⊥) → (getD bs 0 0 ≡ 0x20 → ⊥) → nextOf (bs ++ ys) ≡ Wrong
   wrong-on s t = next-wrong (bs ++ ys) (λ e. s (omega (arith, behind-length))) (λ e. t (sym (same-tag s) ∙ e))

@@ -1,5 +1,5 @@
--- What is kept between two pieces: that what is kept of a step stands for the step's rest, and nothing else does. By what each answer of `nextOf` tells of the
--- bytes, and by the tests on the number that is kept. Assumes nothing.
+-- What is kept between two pieces: that what is kept of a step stands for the step's rest, and nothing else does. By the tests on the
+-- number that is kept. Assumes nothing.
 use Prim.Native.Nat.{ℕ, zero, suc, _+_, _-_, _≤_, _<_}
 use native.Mathlib.Omega.{arith}
 use mathlib.Core.Bool.{Bool, true, false}
@@ -8,58 +8,19 @@ use mathlib.Core.Path.{_≡_, refl, sym, ap, _∙_}
 use denote.Enum.Declared.{tagOf}
 use types.Run.{OneOf, miss}
 use lib.Dec.{eqb, ltb}
-use lib.ListN.{length, take, drop, getD, length-append, length-drop}
-use lib.Seq.{take-append-le, drop-append-le, take-append-seam, length-take-le}
+use lib.ListN.{length, take, drop, length-append, length-drop}
+use lib.Seq.{take-append-seam, length-take-le}
 use borrow.Author.Tests.{lt-ltb, le-ltb, eq-eqb, ne-eqb, ltb-true, ltb-false, eqb-true, eqb-false}
-use Rattle.book.specs.Records.{number, mostBytes}
 use Rattle.frames.proofs.Next as Cases
-use Rattle.frames.proofs.Nexts.{lengthOf, next-none, next-wrong, next-short, next-sized}
-use Rattle.frames.specs.Frames.{sized, nextOf}
+use Rattle.frames.proofs.Nexts.{lengthOf, next-none, tells, room}
+use Rattle.frames.proofs.Streams.{Settled}
+use Rattle.frames.specs.Frames.{nextOf}
 use Rattle.frames.specs.Streams.{Rest, begun, passing, stopped, Step}
 use Rattle.frames.specs.declared.Next.{Next}
 use Rattle.frames.specs.declared.Next.the-variants.{Whole, Over, Wrong, More}
 use Rattle.wire.specs.Bytes.{Bytes}
 use Rattle.gathering.specs.Gathering.{mostHeld, ifBegun, restOf, keptOf, heldOf, dueOf, Gathers}
 use Rattle.gathering.specs.declared.Gathered.{Gathered}
-
--- ---- what each answer tells of the bytes
-
-abbrev pub Tells : List ℕ → Next → Type 0
-Tells bs (Whole len) = len ≡ lengthOf bs
-Tells bs (Over len) = len ≡ lengthOf bs
-Tells bs Wrong = Unit
-Tells bs More = (length bs < mostHeld) × (3 ≤ length bs → length bs < 3 + lengthOf bs)
-
-module _ (bs : List ℕ) where
-  few : length bs < 3 → Tells bs More
-  few h = (omega arith, λ l. omega arith)
-
-  tells : Tells bs (nextOf bs)
-  tells = at-all (eqb (length bs) 0) refl
-    where
-      long : (o p : Bool) → ltb mostBytes (lengthOf bs) ≡ o → ltb (length bs) (3 + lengthOf bs) ≡ p → Tells bs (sized (length bs) (lengthOf bs))
-      long true p e f = rw e refl
-      long false true e f =
-          let most = ltb-false mostBytes (lengthOf bs) e in
-          let part = ltb-true (length bs) (3 + lengthOf bs) f in
-          rw (e, f) (omega arith, λ l. part)
-      long false false e f = rw (e, f) refl
-
-      tagged : (length bs ≡ 0 → ⊥) → getD bs 0 0 ≡ 0x20 → (t : Bool) → ltb (length bs) 3 ≡ t → Tells bs (nextOf bs)
-      tagged s t true e = rw (next-short bs s t (ltb-true (length bs) 3 e)) (few (ltb-true (length bs) 3 e))
-      tagged s t false e =
-          rw (next-sized bs s t (ltb-false (length bs) 3 e)) (long (ltb mostBytes (lengthOf bs)) (ltb (length bs) (3 + lengthOf bs)) refl refl)
-
-      there : (length bs ≡ 0 → ⊥) → (t : Bool) → eqb (getD bs 0 0) 0x20 ≡ t → Tells bs (nextOf bs)
-      there s true e = tagged s (eqb-true (getD bs 0 0) 0x20 e) (ltb (length bs) 3) refl
-      there s false e = rw (next-wrong bs s (eqb-false (getD bs 0 0) 0x20 e)) tt
-
-      at-all : (t : Bool) → eqb (length bs) 0 ≡ t → Tells bs (nextOf bs)
-      at-all true e = let z = eqb-true (length bs) 0 e in rw (next-none bs z) (few (omega arith))
-      at-all false e = there (eqb-false (length bs) 0 e) (eqb (getD bs 0 0) 0x20) refl
-
-  pub told : {x : Next} → nextOf bs ≡ x → Tells bs x
-  told e = rw (← e) tells
 
 -- ---- the length of a frame that goes on
 
@@ -79,22 +40,8 @@ pub record Framed (h : List ℕ) (len : ℕ) : Type 0 where
   pub within : length h ≤ 3 + len
   pub two : len < 65536
 
-module _ (h bs : List ℕ) where
-  same-length : 3 ≤ length h → lengthOf (h ++ bs) ≡ lengthOf h
-  same-length l =
-      let room : 2 ≤ length (drop 1 h) = omega (arith, length-drop 1 h) in
-      ap (λ (l : List ℕ). number (take 2 l)) (drop-append-le 1 h bs (omega arith)) ∙ ap number (take-append-le 2 (drop 1 h) bs room)
-
-  room : nextOf h ≡ More → (t : Bool) → ltb (length h) 3 ≡ t → length h ≤ 3 + lengthOf (h ++ bs)
-  room more true e = omega (arith, ltb-true (length h) 3 e)
-  room more false e = let l = ltb-false (length h) 3 e in omega (arith, told h more .1 l, same-length l)
-
-  pub goes-on : {len : ℕ} → nextOf h ≡ More → Bytes h → Bytes bs → len ≡ lengthOf (h ++ bs) → Framed h len
-  goes-on more b c is =
-      record {
-        within = omega (arith, room more (ltb (length h) 3) refl);
-        two = omega (arith, small (h ++ bs) (bytes-append h bs b c));
-      }
+pub goes-on : (h bs : List ℕ) {len : ℕ} → nextOf h ≡ More → Bytes h → Bytes bs → len ≡ lengthOf (h ++ bs) → Framed h len
+goes-on h bs more b c is = record { within = omega (arith, room h bs more); two = omega (arith, small (h ++ bs) (bytes-append h bs b c)) }
 
 -- ---- what a number and 97 bytes stand for, test by test
 
@@ -119,12 +66,6 @@ no-begun Wrong h k = refl
 no-begun More h k = absurd (miss (0 ∷ 1 ∷ 2 ∷ []) 3 tt k)
 
 -- ---- what is kept is what is left
-
--- what a rest is that was left by a step: a frame that is begun is not complete, and something of an over-long one is still to come
-abbrev pub Settled : Rest → Type 0
-Settled (begun h) = nextOf h ≡ More
-Settled (passing k) = 0 < k
-Settled stopped = Unit
 
 -- the three ways to keep
 data Stands (held : List ℕ) (kept : ℕ) : Rest → Type 0 where
@@ -179,14 +120,14 @@ none-kept held = rest-held held 0 (omega arith) (next-none [] refl)
 pub rest-back : (held : List ℕ) (r : Rest) → Settled r → restOf (heldOf held r) (keptOf r) ≡ r
 rest-back held (begun h) more =
     let same = take-append-seam h (drop (length h) held) in
-    rest-held (heldOf held (begun h)) (length h) (told h more .0) (ap nextOf same ∙ more) ∙ ap begun same
+    rest-held (heldOf held (begun h)) (length h) (tells h more) (ap nextOf same ∙ more) ∙ ap begun same
 rest-back held (passing k) some =
     let same : mostHeld + k - mostHeld ≡ k = omega arith in
     rest-passing held (mostHeld + k) (omega arith) ∙ ap passing same
 rest-back held stopped _ = rest-stopped held mostHeld refl
 
 pub held-length : (held : List ℕ) (r : Rest) → Settled r → length held ≡ mostHeld → length (heldOf held r) ≡ mostHeld
-held-length held (begun h) more l = simp (length-append, length-drop) (omega (arith, told h more .0))
+held-length held (begun h) more l = simp (length-append, length-drop) (omega (arith, tells h more))
 held-length held (passing k) some l = l
 held-length held stopped _ l = l
 

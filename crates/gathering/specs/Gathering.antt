@@ -52,8 +52,15 @@ dueOf Nothing bs = none
 dueOf (Frame len) bs = some (take len (drop 3 bs))
 dueOf TooLong bs = some []
 
+-- a frame that is due is all there
+abbrev pub IsWhole : Due → List ℕ → Type 0
+IsWhole Nothing bs = Unit
+IsWhole (Frame len) bs = nextOf bs ≡ Whole len
+IsWhole TooLong bs = Unit
+
 -- The first step that a piece makes behind what is kept.
 pub record Gathers (s : Step) (bs : List ℕ) (r : Gathered) : Type 0 where
   pub used : r .used ≡ s .used
   pub kept : r .kept ≡ keptOf (s .rest)
   pub due : dueOf (r .due) bs ≡ s .due
+  pub whole : IsWhole (r .due) bs

@@ -9,7 +9,7 @@ ghost use Prim.Native.Nat.{ℕ, _+_, _<_};
 ghost use Rattle.frames.specs.Frames.{nextOf};
 ghost use Rattle.frames.specs.Streams.{Rest, begun, waiting as waits, complete as completes, past, step};
 ghost use Rattle.frames.specs.declared.Next.the-variants.{More};
-ghost use Rattle.gathering.specs.Gathering.{restOf, keptOf, bytesOf, dueOf, Gathers};
+ghost use Rattle.gathering.specs.Gathering.{restOf, keptOf, bytesOf, dueOf, IsWhole, Gathers};
 
 // The number that is kept: below this, that so many bytes of a frame are held; this, that a wrong tag came; above it, how many bytes more of an over-long frame
 // are still to be read past. So at most 97 bytes are held: a frame's tag, its length and 94 bytes.
@@ -42,7 +42,7 @@ fn waiting(piece: &[u8], kept: u32) -> Gathered
 
 // A frame is complete behind so many bytes of the piece.
 fn complete(used: usize, due: Due) -> Gathered
-    ensures { λ r. ⌜ ((bs contents : List ℕ) → dueOf due bs ≡ some contents → Gathers (completes used contents) bs r) ⌝ }
+    ensures { λ r. ⌜ ((bs contents : List ℕ) → dueOf due bs ≡ some contents → IsWhole due bs → Gathers (completes used contents) bs r) ⌝ }
 {
     Gathered { used, kept: 0, due }
 }

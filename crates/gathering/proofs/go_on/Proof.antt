@@ -5,13 +5,13 @@ use mathlib.Core.List.{List, _++_}
 use mathlib.Core.Path.{_≡_, refl, sym, _∙_}
 use lib.ListN.{length, length-append}
 use borrow.Author.Needs.{needs}
-use Rattle.frames.proofs.Nexts.{lengthOf}
+use Rattle.frames.proofs.Nexts.{lengthOf, tells}
 use Rattle.frames.specs.Frames.{nextOf}
 use Rattle.frames.specs.Streams.{begun, stopped, step, frameOf}
 use Rattle.frames.specs.declared.Next.{Next}
 use Rattle.gathering.specs.Gathering.{mostHeld, Gathers}
 use Rattle.gathering.specs.declared.Gathered.{Gathered}
-use Rattle.gathering.proofs.Kept.{Framed, told, goes-on}
+use Rattle.gathering.proofs.Kept.{Framed, goes-on}
 use Rattle.gathering.proofs.go_on.Statement.{statement}
 use Rattle.gathering.proofs.go_on.Tie as tie
 
@@ -24,8 +24,8 @@ module _ (next : tie.After-next-frame) where
   abbrev piece : List ℕ
   piece = next .before .before .before .args .piece .now
 
-  tells : {x : Next} → next .next-frame .result ≡ x → nextOf (first ++ piece) ≡ x
-  tells e = sym (next .next-frame .ensures) ∙ e
+  begins : {x : Next} → next .next-frame .result ≡ x → nextOf (first ++ piece) ≡ x
+  begins e = sym (next .next-frame .ensures) ∙ e
 
   fits : {len : ℕ} → len ≡ lengthOf (first ++ piece) → Framed first len
   fits is =
@@ -35,23 +35,24 @@ module _ (next : tie.After-next-frame) where
   gathers : {x : Next} {r : Gathered} → next .next-frame .result ≡ x → Gathers (frameOf x first piece) (first ++ piece) r
       → Gathers (step (begun first) piece) (first ++ piece) r
   unfolding step
-  gathers e h = rw (tells e) h
+  gathers e h = rw (begins e) h
 
 whole : (c : tie.After-known-told) → Framed (first (c .before .before .before)) (c .before .len .given .0 .0)
-whole c = let next = c .before .before .before in fits next (told (first next ++ piece next) (tells next (c .before .len .given .1)))
+whole c = let next = c .before .before .before in fits next (tells (first next ++ piece next) (begins next (c .before .len .given .1)) .0)
 
 over : (c : tie.After-known-told2) → Framed (first (c .before .before .before)) (c .before .len2 .given .0 .0)
-over c = let next = c .before .before .before in fits next (told (first next ++ piece next) (tells next (c .before .len2 .given .1)))
+over c = let next = c .before .before .before in fits next (tells (first next ++ piece next) (begins next (c .before .len2 .given .1)))
 
 few : (c : tie.After-enum-told2) → let next = c .before .before in length (first next) + length (piece next) < mostHeld
 few c =
     let next = c .before .before in
-    omega (arith, told (first next ++ piece next) (tells next (c .enum-told2 .given .1)) .0, length-append (first next) (piece next))
+    omega (arith, tells (first next ++ piece next) (begins next (c .enum-told2 .given .1)), length-append (first next) (piece next))
 
 returns : tie.Need-returns
 returns c =
     let next = c .before .before .before .before in
-    gathers next (c .before .before .len .given .1) (c .complete .ensures (first next ++ piece next) _ refl)
+    let is = c .before .before .len .given .1 in
+    gathers next is (c .complete .ensures (first next ++ piece next) _ refl (begins next is))
 
 returns-2 : tie.Need-returns-2
 returns-2 c =

@@ -18,7 +18,7 @@ returns c bs =
 returns-2 : tie.Need-returns-2
 returns-2 c bs =
     let a = c .before .before .before .args in
-    rw (le-ltb (length (a .piece .now)) (a .k) (c .before .if1 .left)) (c .complete .ensures bs [] refl)
+    rw (le-ltb (length (a .piece .now)) (a .k) (c .before .if1 .left)) (c .complete .ensures bs [] refl tt)
 
 pub read-past-spec : {M : Type 1} → statement M
 read-past-spec =
