@@ -68,13 +68,13 @@ no-begun More h k = absurd (miss (0 ∷ 1 ∷ 2 ∷ []) 3 tt k)
 -- ---- what is kept is what is left
 
 -- the three ways to keep
-data Stands (held : List ℕ) (kept : ℕ) : Rest → Type 0 where
+pub data Stands (held : List ℕ) (kept : ℕ) : Rest → Type 0 where
   part : kept < mostHeld → nextOf (take kept held) ≡ More → Stands held kept (begun (take kept held))
   over : mostHeld < kept → Stands held kept (passing (kept - mostHeld))
   wrong : Stands held kept stopped
 
 module _ (held : List ℕ) (kept : ℕ) where
-  stands : Stands held kept (restOf held kept)
+  pub stands : Stands held kept (restOf held kept)
   stands = below (ltb kept mostHeld) refl
     where
       begins : kept < mostHeld → (x : Next) → nextOf (take kept held) ≡ x → Stands held kept (ifBegun x (take kept held))
