@@ -1,19 +1,21 @@
 -- A form that takes bytes as they come, and what a piece does to it: the contracts of this crate. Definitions only. Assumes nothing.
-use Prim.Native.Nat.{ℕ, _+_, _*_}
+use Prim.Native.Nat.{ℕ, _+_, _*_, _≤_}
 use mathlib.Core.Bool.{Bool, true, false}
 use mathlib.Core.List.{List, [], _∷_, _++_, map}
 use mathlib.Core.Option.{Option, some, none}
 use mathlib.Core.Path.{_≡_}
+use lib.ListN.{length}
 use Rattle.answers.specs.Told.{repliedNumber}
 use Rattle.book.specs.Answers.{replies, Buffers}
 use Rattle.book.specs.Sessions as Book
 use Rattle.book.specs.Sessions.{deliverAll}
 use Rattle.frames.specs.Streams.{Rest, begun, passing, stopped, step, streamOf}
-use Rattle.gathering.specs.Gathering.{restOf, keptOf, heldOf}
+use Rattle.gathering.specs.Gathering.{mostHeld, restOf, keptOf, heldOf}
 use Rattle.once.specs.AllOnce.{bench, AllOnce}
 use Rattle.once.specs.Answered.{Answered, answersOf}
 use Rattle.sessions.specs.Deliveries.{meant}
 use Rattle.stores.specs.Stores.{store}
+use Rattle.feeding.specs.declared.Fed.{Fed}
 use Rattle.feeding.specs.declared.Feed.{Feed}
 use Rattle.feeding.specs.declared.Told.{Told}
 use Rattle.feeding.specs.declared.Told.the-variants.{Nothing, Reply}
@@ -53,6 +55,18 @@ listOf (some bytes) = bytes ∷ []
 abbrev pub toldOf : Told → ℕ → List Answered
 toldOf Nothing count = []
 toldOf (Reply x) count = record { says = replies x; count = count } ∷ []
+
+-- two parts of a frame: its tag and length are there, and it is no longer than what is held
+pub record Joins (first last : List ℕ) : Type 0 where
+  pub least : 3 ≤ length first + length last
+  pub most : length first + length last ≤ mostHeld
+
+-- One delivery, which used so many bytes of the piece: the next session, what is told, and every place. Nothing is kept behind it.
+pub record Makes (s : Book.Session) (b : Buffers) (contents : List ℕ) (n : ℕ) (r : Fed) (b′ : Buffers) : Type 0 where
+  pub used : r .used ≡ n
+  pub kept : r .kept ≡ 0
+  pub run : bench (meant (r .session)) b′ ≡ deliverAll (bench s b) (contents ∷ [])
+  pub told : toldOf (r .told) (r .session .count) ≡ answersOf (bench s b) (contents ∷ [])
 
 -- From a form and buffers to a form and buffers: how many bytes of the piece are used, what is told, what is kept, the session and every place.
 pub record Takes (f : Form) (b : Buffers) (piece : List ℕ) (n : ℕ) (t : List Answered) (f′ : Form) (b′ : Buffers) : Type 0 where

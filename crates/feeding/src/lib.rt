@@ -1,15 +1,16 @@
 // A form that takes bytes as they come, and makes each delivery when its frame is complete: it takes itself and a piece, and hands back the next one.
-use answers::tell_reply;
 use book::Reply;
 use gathering::Due;
+use gathering::STOPPED;
 use gathering::gather;
-use once::next_size;
 use sessions::Session;
+use words::add;
 ghost use mathlib.Core.Path.{_≡_};
+ghost use mathlib.Core.List.{_++_};
+ghost use lib.ListN.{length, drop, replicate};
 ghost use Rattle.book.specs.Lent.{before, after};
-ghost use Rattle.once.specs.AllOnce.{cut};
 ghost use Rattle.sessions.specs.Deliveries.{meant};
-ghost use Rattle.feeding.specs.Feeding.{form, formOf, restIn, cuts, toldOf, Takes, joined, Fills};
+ghost use Rattle.feeding.specs.Feeding.{form, formOf, restIn, cuts, toldOf, Joins, Makes, Takes};
 
 // A session, and what is kept of the stream between two pieces: at most 97 bytes, and a number (crate gathering says which).
 pub struct Feed {
@@ -39,6 +40,33 @@ pub struct Fed {
     pub told: Told,
 }
 
+// The delivery of a frame's contents, which used so many bytes of the piece. Behind a frame nothing is kept.
+fn make(session: Session, used: usize, contents: &[u8], reals: &mut [f64], imags: &mut [f64]) -> Fed
+    ensures { λ r. ⌜ Makes (meant session) (before reals imags) (now (contents .entry)) used r (after reals imags) ⌝ }
+{
+    let delivered = session.deliver(contents, reals, imags);
+    let next = delivered.next;
+    let reply = delivered.reply;
+    Fed {
+        session: next,
+        kept: 0,
+        used,
+        told: Told::Reply(reply),
+    }
+}
+
+// A frame that came in two parts: they are put together.
+fn make_joined(session: Session, first: &[u8], last: &[u8], reals: &mut [f64], imags: &mut [f64]) -> Fed
+    requires { ⌜ Joins (now first) (now last) ⌝ }
+    ensures { λ r. ⌜ Makes (meant session) (before reals imags) (drop 3 (now (first .entry) ++ now (last .entry))) (length (now (last .entry))) r
+        (after reals imags) ⌝ }
+{
+    let mut frame = [0u8; 97];
+    let have = add(&mut frame, 0, first);
+    let end = add(&mut frame, have, last);
+    make(session, last.len(), &frame[3..end], reals, imags)
+}
+
 // One step: the piece is used up to the end of the first frame that it completes, and that is delivered; all of it where it completes none.
 // A frame that stands whole in its piece is delivered from there.
 pub fn take_piece(
@@ -52,23 +80,71 @@ pub fn take_piece(
     ensures { λ r. ⌜ Takes (form (meant session) kept (now (held .entry))) (before reals imags) (now (piece .entry)) (r .used)
         (toldOf (r .told) (r .session .count)) (form (meant (r .session)) (r .kept) (now (held .exit))) (after reals imags) ⌝ }
 {
+    let gathered = gather(held, kept, piece);
+    let used = gathered.used;
+    let next = gathered.kept;
+    let due = gathered.due;
+    match due {
+        Due::Nothing => {
+            if next < STOPPED {
+                add(held, kept as usize, piece);
+            }
+            Fed {
+                session,
+                kept: next,
+                used,
+                told: Told::Nothing,
+            }
+        }
+        Due::Frame(len) => {
+            let end = 3 + len;
+            if used < end {
+                let all = &held[..];
+                return make_joined(session, &all[..end - used], &piece[..used], reals, imags);
+            }
+            make(session, used, &piece[3..end], reals, imags)
+        }
+        Due::TooLong => make(session, used, &piece[..0], reals, imags),
+    }
 }
 
 impl Feed {
     // Behind the header nothing is kept.
     pub fn start(session: Session) -> Feed
-        ensures is { λ r. ⌜ r ≡ record { session = session; kept = 0; held = .. } ⌝ }
+        ensures { λ r. ⌜ formOf r ≡ form (meant session) 0 (replicate 97 0) ⌝ }
+    {
+        Feed {
+            session,
+            kept: 0,
+            held: [0; 97],
+        }
+    }
 
     pub fn take(self, piece: &[u8], reals: &mut [f64], imags: &mut [f64]) -> Taken
         ensures { λ r. ⌜ Takes (formOf self) (before reals imags) (now (piece .entry)) (r .used) (toldOf (r .told) (r .next .session .count))
             (formOf (r .next)) (after reals imags) ⌝ }
+    {
+        let mut held = self.held;
+        let session = self.session;
+        let fed = take_piece(session, self.kept, &mut held, piece, reals, imags);
+        let after = fed.session;
+        let told = fed.told;
+        let next = Feed {
+            session: after,
+            kept: fed.kept,
+            held,
+        };
+        Taken {
+            next,
+            used: fed.used,
+            told,
+        }
+    }
 
     // Whether the end of the input here is CUT: inside a frame, or behind a wrong tag.
     pub fn is_cut(self) -> bool
         ensures { λ r. ⌜ r ≡ cuts (restIn (formOf self)) ⌝ }
-
-    // All of a piece (private), told from a place of the list on; then pieces one after the other, which lie so in `bytes`.
-    pub fn take_all(self, bytes: &[u8], lengths: &[usize], answers: &mut [u32], reals: &mut [f64], imags: &mut [f64]) -> Feed
-        ensures { λ r. ⌜ Fills (formOf self) (before reals imags) (joined (cut (now (bytes .entry)) (now (lengths .entry))))
-            (now (answers .entry)) (now (answers .exit)) (formOf r) (after reals imags) ⌝ }
+    {
+        self.kept != 0
+    }
 }

@@ -1,0 +1,2 @@
+-- Steps: a step of the stream as the code makes it.
+mod Steps
