@@ -2,9 +2,9 @@
 use Prim.Native.Nat.{ℕ, _+_, _-_, _%_, _^_}
 use mathlib.Core.List.{List, [], _∷_, _++_}
 use mathlib.Core.Path.{_≡_}
-use lib.Ieee.{Float}
 use lib.ListN.{length, drop, replicate}
-use Rattle.book.specs.Answers.{Buffers, buffers}
+use Rattle.book.specs.Answers.{Buffers}
+use Rattle.book.specs.Examples.{real}
 use Rattle.book.specs.Sessions.{Session, session, deliverAll}
 use Rattle.feeding.specs.Feeding.{Form, formOf, cuts, TakesAll}
 use Rattle.frames.specs.Frames.{headerOf}
@@ -19,7 +19,7 @@ use Rattle.program.specs.declared.Running.{Running}
 
 -- real 1 at index 0, in n qubits
 abbrev pub firstState : ℕ → Buffers
-firstState n = buffers (one ∷ replicate (2 ^ n - 1) zero) (replicate (2 ^ n) zero)
+firstState n = real (1 ∷ replicate (2 ^ n - 1) 0)
 
 -- behind a header: a D line for each delivery, CUT, the A lines, END
 abbrev pub linesOf : Session → Buffers → List ℕ → List ℕ

@@ -12,7 +12,7 @@ use sessions::Session;
 ghost use mathlib.Core.Path.{_≡_};
 ghost use Prim.Native.Nat.{_≤_};
 ghost use lib.ListN.{length, take};
-ghost use Rattle.book.specs.Answers.{Buffers};
+ghost use Rattle.book.specs.Answers.{buffers};
 ghost use Rattle.book.specs.Lent.{before, after};
 ghost use Rattle.book.specs.Sessions as Book;
 ghost use Rattle.feeding.specs.Feeding.{formOf, restIn, cuts, toldOf};
@@ -22,8 +22,10 @@ ghost use Rattle.program.specs.Program.{firstState, linesOf, printed, ru
 // The places of the most qubits in the program.
 pub const MOST_PLACES: usize = 2048;
 
-// The most bytes of a piece: what their answers print fits in the buffer that bench_run writes from.
-pub const PIECE: usize = 1024;
+// The most bytes that are read at a time, and what has room for all that they print, and for the state: a line has at most 128 bytes, a delivery at least one.
+pub const PIECE: usize = 2048;
+
+pub const OUT: usize = 262400;
 
 // What is known between two pieces: the form, and the number of the next delivery.
 pub struct Running {
@@ -109,7 +111,7 @@ pub fn put_piece(
 
 // What stands behind the last delivery.
 pub fn put_end(end: Running, reals: &[f64], imags: &[f64], out: &mut [u8], at: usize) -> usize
-    ensures { λ r. ⌜ Put (closing (cuts (restIn (formOf (end .feed)))) (formOf (end .feed) .session) (..))
+    ensures { λ r. ⌜ Put (closing (cuts (restIn (formOf (end .feed)))) (formOf (end .feed) .session) (buffers (now (reals .entry)) (now (imags .entry))))
         (now (out .entry)) at r (now (out .exit)) ⌝ }
 {
     let feed = end.feed;
@@ -135,11 +137,21 @@ fn put_pieces(from: Running, bytes: &[u8], out: &mut [u8], reals: &mut [f64], im
     Printed { next, at }
 }
 
+// The frames' lines, and those behind them, of a run that begins here.
 fn put_lines(from: Running, frames: &[u8], out: &mut [u8], reals: &mut [f64], imags: &mut [f64]) -> usize
-    ensures { Put (linesOf ...) }
+    ensures { λ r. ⌜ (runOf from .index ≡ 0 → restIn (runOf from .form) ≡ begun []
+        → Put (linesOf (runOf from .form .session) (before reals imags) (now (frames .entry))) (now (out .entry)) 0 r (now (out .exit))) ⌝ }
 {
     let printed = put_pieces(from, frames, out, reals, imags);
     put_end(printed.next, reals, imags, out, printed.at)
+}
+
+// What stands behind the header.
+fn behind_header(input: &[u8]) -> &[u8] {
+    if input.len() < 8 {
+        return &input[0..0];
+    }
+    &input[8..]
 }
 
 // In the places of n qubits.
