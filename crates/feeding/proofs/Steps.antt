@@ -30,13 +30,13 @@ use Rattle.feeding.specs.declared.Fed.{Fed}
 
 -- ---- what a step comes to
 
-data Comes (r : Rest) (bs : List ℕ) : Step → Type 0 where
+pub data Comes (r : Rest) (bs : List ℕ) : Step → Type 0 where
   done : (k : ℕ) (contents : List ℕ) → Comes r bs (complete k contents)
   holds : (h : List ℕ) → r ≡ begun h → nextOf (h ++ bs) ≡ More → Comes r bs (waiting bs (begun (h ++ bs)))
   passes : (k : ℕ) → Comes r bs (waiting bs (passing k))
   stops : Comes r bs (waiting bs stopped)
 
-comes : (r : Rest) (bs : List ℕ) → Comes r bs (step r bs)
+pub comes : (r : Rest) (bs : List ℕ) → Comes r bs (step r bs)
 unfolding step
 comes r bs = by r refl
   where

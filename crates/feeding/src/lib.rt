@@ -56,7 +56,13 @@ fn make(session: Session, used: usize, contents: &[u8], reals: &mut [f64], imags
 }
 
 // A frame that came in two parts: they are put together.
-fn make_joined(session: Session, first: &[u8], last: &[u8], reals: &mut [f64], imags: &mut [f64]) -> Fed
+fn make_joined(
+    session: Session,
+    first: &[u8],
+    last: &[u8],
+    reals: &mut [f64],
+    imags: &mut [f64],
+) -> Fed
     requires { ⌜ Joins (now first) (now last) ⌝ }
     ensures { λ r. ⌜ Makes (meant session) (before reals imags) (drop 3 (now (first .entry) ++ now (last .entry))) (length (now (last .entry))) r
         (after reals imags) ⌝ }

@@ -18,12 +18,6 @@ use Rattle.sessions.specs.Deliveries.{meant}
 use Rattle.feeding.proofs.Steps.{Holds, holds-on, stays, nothing-due, made, Sized, sized, none-held, Parts, in-two}
 use Rattle.feeding.proofs.take_piece.Statement.{statement}
 use Rattle.feeding.proofs.take_piece.Tie as tie
-use Rattle.feeding.proofs.take_piece.Reads as reads
-use Rattle.feeding.proofs.take_piece.Lts as lts
-use Rattle.feeding.proofs.make.Reads as make-reads
-use Rattle.feeding.proofs.make_joined.Reads as make-joined-reads
-use Rattle.gathering.proofs.gather.Reads as gather-reads
-use Rattle.words.proofs.add.Reads as add-reads
 
 -- `g` is the place behind the call of gather
 
