@@ -1,6 +1,7 @@
 // The program: reads a header and frames from its input, and writes the lines of document 01 to standard output. The input has any size and comes in any pieces.
 // Here it reads and writes; what it makes of what it read, and what it hands on to be written, is program's.
-ghost use Prim.Native.Nat.{_<_};
+ghost use Prim.Native.Nat.{_≤_, _<_};
+ghost use lib.ListN.{length};
 
 mod turns;
 
@@ -62,7 +63,8 @@ fn left(turns: u64, more: bool) -> u64
 
 // Reads to the end, and writes what has been answered before more is waited for. Nothing says that an input ends: the turns are counted down from a number that
 // no run uses up.
-fn take_input(input: i32, start: Running, reals: &mut [f64], imags: &mut [f64]) -> Behind {
+fn take_input(input: i32, start: Running, reals: &mut [f64], imags: &mut [f64]) -> Behind
+{
     let mut chunk = [0u8; PIECE];
     let mut out = [0u8; OUT];
     let mut end = start;
@@ -80,14 +82,18 @@ fn take_input(input: i32, start: Running, reals: &mut [f64], imags: &mut [f64]) 
 }
 
 // CUT, the A lines and END.
-fn write_closing(end: Running, reals: &[f64], imags: &[f64]) -> bool {
+fn write_closing(end: Running, reals: &[f64], imags: &[f64]) -> bool
+    requires { ⌜ length (now reals) ≤ 2048 ⌝ }
+{
     let mut out = [0u8; OUT];
     let n = closing(end, reals, imags, &mut out);
     io::write_all(libc::STDOUT_FILENO, &out[..n])
 }
 
 // The frames, and then the state behind them.
-fn run_session(input: i32, start: Running, reals: &mut [f64], imags: &mut [f64]) -> Ended {
+fn run_session(input: i32, start: Running, reals: &mut [f64], imags: &mut [f64]) -> Ended
+    requires { ⌜ length (now reals) ≤ 2048 ⌝ }
+{
     let behind = take_input(input, start, reals, imags);
     let end = behind.end;
     if behind.open {
@@ -98,7 +104,9 @@ fn run_session(input: i32, start: Running, reals: &mut [f64], imags: &mut [f64])
 }
 
 // From state real 1 at index 0, with the places that a state of n qubits has.
-fn run_bench(input: i32, n: u32, number: u32) -> Ended {
+fn run_bench(input: i32, n: u32, number: u32) -> Ended
+    requires { ⌜ n ≤ 11 ⌝ }
+{
     let size: usize = 1 << n;
     let mut reals = program::first_reals();
     let mut imags = [0.0; MOST_PLACES];

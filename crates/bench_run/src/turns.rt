@@ -2,9 +2,11 @@
 use program::OUT;
 use program::PIECE;
 use program::Running;
-ghost use lib.ListN.{take};
+ghost use Prim.Native.Nat.{_≤_};
+ghost use lib.ListN.{length, take};
 ghost use Rattle.book.specs.Answers.{buffers};
 ghost use Rattle.book.specs.Lent.{before, after};
+ghost use Rattle.io.specs.Counts.{Counts};
 ghost use Rattle.program.specs.Program.{runOf};
 ghost use Rattle.bench_run.specs.Turns.{Writes, Closes};
 
@@ -24,12 +26,14 @@ pub(crate) fn take_turn(
     reals: &mut [f64],
     imags: &mut [f64],
 ) -> Turn
-    ensures { λ r. ⌜ Writes (runOf from) (before reals imags) (take (r .got) (now (chunk .exit))) (take (r .at) (now (out .exit)))
+    ensures writes { λ r. ⌜ Writes (runOf from) (before reals imags) (take (r .got) (now (chunk .exit))) (take (r .at) (now (out .exit)))
         (runOf (r .next)) (after reals imags) ⌝ }
+    ensures counts { λ r. ⌜ Counts (r .at) (now (out .exit)) ⌝ }
 {
     let read = libc::read(input, chunk);
-    let got = io::count(read, chunk);
-    let printed = program::put_piece(from, &chunk[..got], out, 0, reals, imags);
+    let piece = &chunk[..];
+    let got = io::count(read, piece);
+    let printed = program::put_piece(from, &piece[..got], out, 0, reals, imags);
     let next = printed.next;
     Turn {
         next,
@@ -40,7 +44,9 @@ pub(crate) fn take_turn(
 
 // CUT, the A lines and END stand at the start of `out`, all of them.
 pub(crate) fn closing(end: Running, reals: &[f64], imags: &[f64], out: &mut [u8; OUT]) -> usize
-    ensures { λ r. ⌜ Closes (runOf end) (buffers (now (reals .entry)) (now (imags .entry))) (take r (now (out .exit))) ⌝ }
+    requires { ⌜ length (now reals) ≤ 2048 ⌝ }
+    ensures closes { λ r. ⌜ Closes (runOf end) (buffers (now (reals .entry)) (now (imags .entry))) (take r (now (out .exit))) ⌝ }
+    ensures counts { λ r. ⌜ Counts r (now (out .exit)) ⌝ }
 {
     program::put_end(end, reals, imags, out, 0)
 }

@@ -1,0 +1,2 @@
+-- What is handed to write, of what read handed over.
+pub mod Turns
