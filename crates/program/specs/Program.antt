@@ -6,7 +6,7 @@ use lib.ListN.{length, drop, replicate}
 use Rattle.book.specs.Answers.{Buffers}
 use Rattle.book.specs.Examples.{real}
 use Rattle.book.specs.Sessions.{Session, session, deliverAll}
-use Rattle.feeding.specs.Feeding.{Form, formOf, cuts, TakesAll}
+use Rattle.feeding.specs.Feeding.{Form, form, formOf, cuts, TakesAll}
 use Rattle.frames.specs.Frames.{headerOf}
 use Rattle.frames.specs.Streams.{begun, streamOf}
 use Rattle.frames.specs.declared.Header.{Header}
@@ -45,6 +45,10 @@ pub record Run : Type 0 where
 
 abbrev pub runOf : Running → Run
 runOf r = record { index = r .index; form = formOf (r .feed) }
+
+-- behind the header
+abbrev pub fresh : ℕ → ℕ → Run
+fresh n own = record { index = 0; form = form (session n own 0) 0 (replicate 97 0) }
 
 -- A piece of the input is taken, and the lines of its answers are put behind a place of the output.
 pub record Prints (x : Run) (b : Buffers) (piece before : List ℕ) (at : ℕ) (x′ : Run) (b′ : Buffers) (next : ℕ) (after : List ℕ) : Type 0 where

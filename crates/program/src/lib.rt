@@ -1,23 +1,19 @@
-// The whole program over slices: from the bytes that are read to those that are written. bench_run reads and writes, and does all between by these functions.
+// The program over slices, piece by piece: bench_run reads and writes, and does all between by these functions. Crate whole_run puts them together.
 use feeding::Feed;
 use feeding::Told;
 use feeding::take_piece;
-use frames::Header;
-use frames::read_header;
 use once::next_size;
 use printing::put_answer;
-use printing::put_bad_header;
 use printing::put_closing;
 use sessions::Session;
 ghost use mathlib.Core.Path.{_≡_};
-ghost use Prim.Native.Nat.{_≤_};
+ghost use Prim.Native.Nat.{ℕ, _+_, _%_, _^_, _≤_};
 ghost use lib.ListN.{length, take};
 ghost use Rattle.book.specs.Answers.{buffers};
 ghost use Rattle.book.specs.Lent.{before, after};
-ghost use Rattle.book.specs.Sessions as Book;
 ghost use Rattle.feeding.specs.Feeding.{formOf, restIn, cuts, toldOf};
 ghost use Rattle.printing.specs.Printed.{answerLines, closing, Put};
-ghost use Rattle.program.specs.Program.{firstState, linesOf, printed, runOf, Prints};
+ghost use Rattle.program.specs.Program.{firstState, fresh, runOf, Prints};
 
 // The places of the most qubits in the program.
 pub const MOST_PLACES: usize = 2048;
@@ -46,13 +42,17 @@ struct Placed {
 }
 
 // A session that starts, behind the header.
-pub fn start(n: u32, number: u32) -> Running {
+pub fn start(n: u32, number: u32) -> Running
+    ensures { λ r. ⌜ runOf r ≡ fresh n number ⌝ }
+{
     let feed = Feed::start(Session::resume(n, number, 0));
     Running { feed, index: 0 }
 }
 
-// Real 1 at index 0.
-pub fn first_reals() -> [f64; MOST_PLACES] {
+// Real 1 at index 0, in as many places as n qubits have.
+pub fn first_reals() -> [f64; MOST_PLACES]
+    ensures { λ r. ⌜ ((n : ℕ) → n ≤ 11 → take (2 ^ n) r ≡ firstState n .reals) ⌝ }
+{
     let mut reals = [0.0; MOST_PLACES];
     reals[0] = 1.0;
     reals
@@ -62,6 +62,7 @@ pub fn first_reals() -> [f64; MOST_PLACES] {
 fn put_told(out: &mut [u8], at: usize, index: u64, told: Told, count: u16) -> Placed
     requires { ⌜ at ≤ length (now out) ⌝ }
     ensures put { λ r. ⌜ Put (answerLines index (toldOf told count)) (now (out .entry)) at (r .at) (now (out .exit)) ⌝ }
+    ensures index { λ r. ⌜ r .index ≡ (index + length (toldOf told count)) % 2 ^ 64 ⌝ }
 {
     let Told::Reply(reply) = told else {
         return Placed { at, index };
@@ -103,7 +104,11 @@ pub fn put_piece(
         done += fed.used;
     }
     let next = Running {
-        feed: Feed { session, kept, held },
+        feed: Feed {
+            session,
+            kept,
+            held,
+        },
         index,
     };
     Printed { next, at }
@@ -117,60 +122,4 @@ pub fn put_end(end: Running, reals: &[f64], imags: &[f64], out: &mut [u8], at: u
     let feed = end.feed;
     let session = feed.session;
     put_closing(out, at, feed.is_cut(), session.count, reals, imags)
-}
-
-// Piece after piece, as bench_run reads them.
-fn put_pieces(from: Running, bytes: &[u8], out: &mut [u8], reals: &mut [f64], imags: &mut [f64]) -> Printed
-    ensures { λ r. ⌜ Prints (runOf from) (before reals imags) (now (bytes .entry)) (now (out .entry)) 0
-        (runOf (r .next)) (after reals imags) (r .at) (now (out .exit)) ⌝ }
-{
-    let mut next = from;
-    let mut at: usize = 0;
-    let mut done: usize = 0;
-    while done < bytes.len() {
-        let end = done + next_size(PIECE, bytes.len() - done);
-        let printed = put_piece(next, &bytes[done..end], out, at, reals, imags);
-        next = printed.next;
-        at = printed.at;
-        done = end;
-    }
-    Printed { next, at }
-}
-
-// The frames' lines, and those behind them, of a run that begins here.
-fn put_lines(from: Running, frames: &[u8], out: &mut [u8], reals: &mut [f64], imags: &mut [f64]) -> usize
-    ensures { λ r. ⌜ (runOf from .index ≡ 0 → restIn (runOf from .form) ≡ begun []
-        → Put (linesOf (runOf from .form .session) (before reals imags) (now (frames .entry))) (now (out .entry)) 0 r (now (out .exit))) ⌝ }
-{
-    let printed = put_pieces(from, frames, out, reals, imags);
-    put_end(printed.next, reals, imags, out, printed.at)
-}
-
-// What stands behind the header.
-fn behind_header(input: &[u8]) -> &[u8] {
-    if input.len() < 8 {
-        return &input[0..0];
-    }
-    &input[8..]
-}
-
-// In the places of n qubits.
-fn put_run(n: u32, number: u32, frames: &[u8], out: &mut [u8]) -> usize
-    requires { ⌜ n ≤ 11 ⌝ }
-    ensures { λ r. ⌜ Put (linesOf (Book.session n number 0) (firstState n) (now (frames .entry))) (now (out .entry)) 0 r (now (out .exit)) ⌝ }
-{
-    let size: usize = 1 << n;
-    let mut reals = first_reals();
-    let mut imags = [0.0; MOST_PLACES];
-    put_lines(start(n, number), frames, out, &mut reals[0..size], &mut imags[0..size])
-}
-
-// From the whole input to the whole output, as far as the buffer goes: what the program prints. The answer is how many bytes stand there.
-pub fn print_all(input: &[u8], out: &mut [u8]) -> usize
-    ensures { λ r. ⌜ Put (printed (now (input .entry))) (now (out .entry)) 0 r (now (out .exit)) ⌝ }
-{
-    match read_header(input) {
-        Header::Good(n, number) => put_run(n, number, behind_header(input), out),
-        Header::Bad => put_bad_header(out, 0),
-    }
 }
