@@ -27,13 +27,17 @@ pub(crate) struct Tally {
     pub differ: u64,
 }
 
-// Real 1 at index 0, and no answer yet.
-fn reset(answers: &mut [u32], reals: &mut [f64], imags: &mut [f64]) {
+fn forget(answers: &mut [u32]) {
     let mut i: usize = 0;
     while i < answers.len() {
         answers[i] = NO_ANSWER;
         i += 1;
     }
+}
+
+// Real 1 at index 0, and no answer yet.
+fn reset(answers: &mut [u32], reals: &mut [f64], imags: &mut [f64]) {
+    forget(answers);
     clear(reals);
     clear(imags);
     if 0 < reals.len() {
@@ -161,20 +165,26 @@ fn byte_by_byte(
     differs(stored, frames, &lengths, whole, answers, reals, imags)
 }
 
+fn places(n: u32) -> usize {
+    if n < 12 {
+        return 1 << n;
+    }
+    MOST_PLACES + 1
+}
+
 // The stream as one piece, and against it every other way.
 pub(crate) fn take_apart(stored: Stored, frames: &[u8]) -> Tally {
     let mut answers = [NO_ANSWER; MOST_ANSWERS];
     let mut all_reals = [0.0; MOST_PLACES];
     let mut all_imags = [0.0; MOST_PLACES];
-    let n = stored.n;
-    if 11 < n {
+    let size = places(stored.n);
+    if MOST_PLACES < size {
         return Tally {
             cuts: 0,
             answers: 0,
             differ: 1,
         };
     }
-    let size: usize = 1 << n;
     let reals = &mut all_reals[..size];
     let imags = &mut all_imags[..size];
     let lengths = [frames.len()];
@@ -182,7 +192,7 @@ pub(crate) fn take_apart(stored: Stored, frames: &[u8]) -> Tally {
     let differ = cut_in_two(stored, frames, whole, &answers, reals, imags);
     let last = byte_by_byte(stored, frames, whole, &answers, reals, imags);
     Tally {
-        cuts: frames.len() as u64 + 1,
+        cuts: one_more(frames.len() as u64, true),
         answers: told(&answers),
         differ: one_more(differ, last),
     }
