@@ -3,12 +3,13 @@ use crate::compare::same_floats;
 use crate::compare::same_numbers;
 use crate::compare::same_start;
 use feeding::Feed;
+use gathering::STOPPED;
 use sessions::Session;
 
 const MOST_PLACES: usize = 2048;
 
 // More than any of the streams has.
-const MOST_ANSWERS: usize = 1280;
+const MOST_ANSWERS: usize = 512;
 
 const MOST_BYTES: usize = 66210;
 
@@ -67,6 +68,14 @@ fn fed(
     feed.take_all(bytes, lengths, answers, reals, imags)
 }
 
+// The bytes that are held are compared where some are.
+fn held(kept: u32) -> usize {
+    if kept < STOPPED {
+        return kept as usize;
+    }
+    0
+}
+
 // Whether two forms are the same to whoever goes on with them.
 fn same_form(a: Feed, b: Feed) -> bool {
     let s = a.session;
@@ -79,7 +88,7 @@ fn same_form(a: Feed, b: Feed) -> bool {
     }
     let x = a.held;
     let y = b.held;
-    same_start(&x, &y, a.kept as usize)
+    same_start(&x, &y, held(a.kept))
 }
 
 fn told(answers: &[u32]) -> usize {
