@@ -1,5 +1,5 @@
--- The laws of a loop that takes a piece step by step: what is left of the piece, taken from here, comes to what all of it comes to from the start. And of one that
--- takes piece after piece: by where a stream may be cut. They say nothing of where the answers go. Assumes nothing.
+-- The laws of a loop that takes a piece step by step: what is left of the piece, taken from here, comes to what all of it comes to from the start. And of one
+-- that takes piece after piece: by where a stream may be cut. They say nothing of where the answers go. Assumes nothing.
 use Prim.Native.Nat.{ℕ, _+_, _-_, _≤_, _<_, min}
 use native.Mathlib.Numerals.{add-one}
 use native.Mathlib.Omega.{arith}
@@ -13,7 +13,7 @@ use Rattle.book.specs.Sessions.{Bench, deliver, deliverAll}
 use Rattle.frames.proofs.Streams.{Settled, step-settled, step-within, step-uses, stream-steps, stream-none, stream-cut}
 use Rattle.frames.specs.Streams.{Rest, begun, passing, stopped, Step, step, Stream, ends as over, goesOn, streamOf}
 use Rattle.gathering.proofs.Kept.{rest-settled, rest-back}
-use Rattle.gathering.specs.Gathering.{restOf, keptOf, heldOf}
+use Rattle.gathering.specs.Gathering.{restOf}
 use Rattle.once.proofs.Loop.{lent, behind}
 use Rattle.once.proofs.Runs.{all-once}
 use Rattle.once.specs.AllOnce.{cut, bench}

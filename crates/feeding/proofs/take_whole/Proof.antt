@@ -28,9 +28,9 @@ loop-holds c = let start = c .before .before .before .before .before in ([], beg
 
 fill-requires : tie.Need-fill-requires Inv-loop μ-loop
 fill-requires c κs =
-    let fed = c .before .before .before .before .before .before in
-    let turning = fed .before .before .before .before .before in
-    let filled = turning .before .loop .inv .2 in
+    let lent = c .before .before .before .before in
+    let called = lent .before .before .before .before in
+    let filled = called .before .before .before .before .loop .inv .2 in
     omega (arith, filled .behind, filled-length filled)
 
 -- `c` is the place where all of a turn is done
