@@ -1,5 +1,5 @@
--- The laws of a loop that takes a piece step by step: what is left of the piece, taken from here, comes to what all of it comes to from the start. And of one that
--- takes piece after piece: by where a stream may be cut. They say nothing of where the answers go. Assumes nothing.
+-- The laws of a loop that takes a piece step by step: what is left of the piece, taken from here, comes to what all of it comes to from the start. And of one
+-- that takes piece after piece: by where a stream may be cut. They say nothing of where the answers go. Assumes nothing.
 use Prim.Native.Nat.{ℕ, _+_, _-_, _≤_, _<_, min}
 use native.Mathlib.Numerals.{add-one}
 use native.Mathlib.Omega.{arith}
@@ -13,8 +13,8 @@ use Rattle.book.specs.Sessions.{Bench, deliver, deliverAll}
 use Rattle.frames.proofs.Streams.{Settled, step-settled, step-within, step-uses, stream-steps, stream-none, stream-cut}
 use Rattle.frames.specs.Streams.{Rest, begun, passing, stopped, Step, step, Stream, ends as over, goesOn, streamOf}
 use Rattle.gathering.proofs.Kept.{rest-settled, rest-back}
-use Rattle.gathering.specs.Gathering.{restOf, keptOf, heldOf}
-use Rattle.once.proofs.Loop.{lent, behind as behind-it}
+use Rattle.gathering.specs.Gathering.{restOf}
+use Rattle.once.proofs.Loop.{lent, behind}
 use Rattle.once.proofs.Runs.{all-once}
 use Rattle.once.specs.AllOnce.{cut, bench}
 use Rattle.once.specs.Answered.{Answered, answersOf}
@@ -69,8 +69,9 @@ module _ {f f′ : Form} {b b′ : Buffers} {bs : List ℕ} {n : ℕ} {t : List 
       stepped (restIn f) bs settled
       ∙ ap₂ (λ (r : Rest) (k : ℕ). before (listOf (first .due)) (streamOf r (drop k bs))) (sym left-is) (sym (h .used))
 
-  some-used : 0 < length bs → 0 < n
-  some-used some = omega (arith, h .used, step-uses (restIn f) bs settled some)
+  -- while bytes are left, some are used
+  pub uses : 0 < length bs → 0 < n
+  uses some = omega (arith, h .used, step-uses (restIn f) bs settled some)
 
   within : n ≤ length bs
   within = omega (arith, h .used, step-within (restIn f) bs)
@@ -97,22 +98,15 @@ pub record Left (f : Form) (b : Buffers) (piece : List ℕ) (at : ℕ) (t : List
 pub begins : (f : Form) (b : Buffers) (piece : List ℕ) → Left f b piece 0 [] f b
 begins f b piece = record { within = omega arith; same = record { reals = refl; imags = refl }; rest = refl; run = refl; told = refl }
 
--- the code lends all of the piece that is behind `at`
-abbrev pub behind : List ℕ → ℕ → List ℕ
-behind piece at = take (length piece - at) (drop at piece)
-
-all-behind : (piece : List ℕ) (at : ℕ) → behind piece at ≡ drop at piece
-all-behind piece at = take-all (length piece - at) (drop at piece) (omega (arith, length-drop at piece))
-
--- while bytes are left, some are used
-pub uses : {f f′ : Form} {b b′ : Buffers} (piece : List ℕ) {at n : ℕ} {t : List Answered} → Takes f b (behind piece at) n t f′ b′ → at < length piece → 0 < n
-uses piece {at} h left = some-used h (rw all-behind (omega (arith, length-drop at piece)))
+-- the code lends all that is left of the piece
+pub all-left : {f f′ : Form} {b b′ : Buffers} (piece : List ℕ) (at : ℕ) {n : ℕ} {t : List Answered}
+    → Takes f b (take (length piece - at) (drop at piece)) n t f′ b′ → Takes f b (drop at piece) n t f′ b′
+all-left piece at h = rw (take-all (length piece - at) (drop at piece) (omega (arith, length-drop at piece))) at h
 
 -- one step
 pub turn : {f f₁ f₂ : Form} {b b₁ b₂ : Buffers} {piece : List ℕ} {at n : ℕ} {t u : List Answered}
-    → Left f b piece at t f₁ b₁ → Takes f₁ b₁ (behind piece at) n u f₂ b₂ → SameSize b₁ b₂ → Left f b piece (at + n) (t ++ u) f₂ b₂
-turn {f} {f₁} {f₂} {b} {b₁} {b₂} {piece} {at} {n} {t} {u} h made keeps =
-    let s = subst (λ (l : List ℕ). Takes f₁ b₁ l n u f₂ b₂) (all-behind piece at) made in
+    → Left f b piece at t f₁ b₁ → Takes f₁ b₁ (drop at piece) n u f₂ b₂ → SameSize b₁ b₂ → Left f b piece (at + n) (t ++ u) f₂ b₂
+turn {f} {f₁} {f₂} {b} {b₁} {b₂} {piece} {at} {n} {t} {u} h s keeps =
     let here : Stream = streamOf (restIn f₂) (drop n (drop at piece)) in
     let whole = stream-is s in
     let next : streamOf (restIn f₂) (drop (at + n) piece) ≡ here = ap (streamOf (restIn f₂)) (sym (drop-drop n at piece)) in
@@ -203,7 +197,7 @@ next-piece {bytes} {lengths} {f} {f₁} {f₂} {b} {b₁} {b₂} {at} {i} {size}
       left =
           ap₂ (λ (x y : List ℕ). x ++ joined (cut y (drop (i + 1) lengths)))
           (both ∙ ap (λ (x : List ℕ). here ++ x) (lent bytes at l size is))
-          (behind-it bytes at l size is)
+          (behind bytes at l size is)
           ∙ append-assoc here (take l (drop at bytes)) rest
           ∙ ap (λ (ls : List ℕ). here ++ joined (cut (drop at bytes) ls)) (ap (λ (k : ℕ). l ∷ drop k lengths) (add-one i) ∙ sym (drop-cons lengths i 0 room))
           ∙ h .left;

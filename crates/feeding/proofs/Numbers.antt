@@ -6,7 +6,7 @@ use native.Mathlib.Omega.{arith}
 use mathlib.Core.List.{List, [], _∷_, _++_, map, map-append}
 use mathlib.Core.Logic.{⊎-elim}
 use mathlib.Core.Path.{_≡_, refl, sym, ap, _∙_}
-use lib.ListN.{length, set, length-set, length-append, length-map}
+use lib.ListN.{length, set, length-append, length-map}
 use lib.Seq.{sets, length-sets, set-out}
 use Rattle.once.specs.Answered.{Answered}
 use Rattle.stores.proofs.Stored.{store-then}

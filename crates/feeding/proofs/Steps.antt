@@ -8,7 +8,6 @@ use mathlib.Core.Path.{_≡_, refl, sym, ap, _∙_}
 use lib.Dec.{ltb}
 use lib.ListN.{length, take, drop, length-append, length-drop, drop-of-length-le}
 use lib.Seq.{sets-eq, take-append-add, length-take-le, take-add, drop-at}
-use borrow.Author.Tests.{ltb-true, ltb-false}
 use Rattle.book.specs.Answers.{Buffers}
 use Rattle.book.specs.Sessions as Book
 use Rattle.book.specs.Sessions.{deliverAll}
@@ -27,6 +26,9 @@ use Rattle.sessions.specs.Deliveries.{meant}
 use Rattle.stores.specs.Stores.{store}
 use Rattle.feeding.specs.Feeding.{form, listOf, toldOf, Joins, Makes, Takes}
 use Rattle.feeding.specs.declared.Fed.{Fed}
+
+clash : _≡_ {A = ℕ} 0 1 → ⊥
+clash e = omega arith
 
 -- ---- what a step comes to
 
@@ -61,9 +63,9 @@ nothing-kept r bs {contents} = by (comes r bs)
   where
     by : {s : Step} → Comes r bs s → some contents ≡ s .due → s .rest ≡ begun []
     by (done k c) e = refl
-    by (holds h is more) e = absurd (let z : _≡_ {A = ℕ} 0 1 = cc in omega arith)
-    by (passes k) e = absurd (let z : _≡_ {A = ℕ} 0 1 = cc in omega arith)
-    by stops e = absurd (let z : _≡_ {A = ℕ} 0 1 = cc in omega arith)
+    by (holds h is more) e = absurd (clash (cc))
+    by (passes k) e = absurd (clash (cc))
+    by stops e = absurd (clash (cc))
 
 -- ---- nothing is due
 
@@ -77,8 +79,8 @@ module _ (held : List ℕ) (kept : ℕ) (piece : List ℕ) (size : length held �
     where
       by : {r : Rest} → Stands held kept r → r ≡ begun h → (h ≡ take kept held) × (length h ≡ kept)
       by (part few more) e = let is : h ≡ take kept held = cc in (is, ap length is ∙ length-take-le kept held (omega arith))
-      by (over k) e = absurd (let z : _≡_ {A = ℕ} 0 1 = cc in omega arith)
-      by wrong e = absurd (let z : _≡_ {A = ℕ} 0 1 = cc in omega arith)
+      by (over k) e = absurd (clash (cc))
+      by wrong e = absurd (clash (cc))
 
   -- the piece behind them
   put : kept + length piece ≤ length held → store held kept piece ≡ heldOf held (begun (take kept held ++ piece))
@@ -96,7 +98,7 @@ module _ (held : List ℕ) (kept : ℕ) (piece : List ℕ) (size : length held �
   holds-on = by (comes (restOf held kept) piece)
     where
       by : {s : Step} → Comes (restOf held kept) piece s → none ≡ s .due → keptOf (s .rest) < mostHeld → Holds (s .rest)
-      by (done k c) e few = absurd (let z : _≡_ {A = ℕ} 0 1 = cc in omega arith)
+      by (done k c) e few = absurd (clash (cc))
       by (holds h is more) e few =
           let (first, many) = held-first is in
           let fits : kept + length piece ≤ length held = omega (arith, length-append h piece) in
@@ -109,7 +111,7 @@ pub stays : (held : List ℕ) (kept : ℕ) (piece : List ℕ) → let after = st
 stays held kept piece = by (comes (restOf held kept) piece)
   where
     by : {s : Step} → Comes (restOf held kept) piece s → none ≡ s .due → mostHeld ≤ keptOf (s .rest) → held ≡ heldOf held (s .rest)
-    by (done k c) e many = absurd (let z : _≡_ {A = ℕ} 0 1 = cc in omega arith)
+    by (done k c) e many = absurd (clash (cc))
     by (holds h is more) e many = absurd (omega (arith, Nexts.tells (h ++ piece) more))
     by (passes k) e many = refl
     by stops e many = refl
@@ -154,11 +156,11 @@ sized bs {len} = by (Nexts.told bs)
   where
     by : {x : Next} → Nexts.Told bs x → x ≡ Whole len → Sized bs len
     by (Nexts.whole there tag few) e = let is : len ≡ lengthOf bs = cc in record { is = is; there = omega arith; most = omega arith }
-    by (Nexts.nothing n) e = absurd (let z : _≡_ {A = ℕ} 0 1 = cc in omega arith)
-    by (Nexts.wrong n t) e = absurd (let z : _≡_ {A = ℕ} 0 1 = cc in omega arith)
-    by (Nexts.short n l) e = absurd (let z : _≡_ {A = ℕ} 0 1 = cc in omega arith)
-    by (Nexts.part l m n) e = absurd (let z : _≡_ {A = ℕ} 0 1 = cc in omega arith)
-    by (Nexts.over l t m) e = absurd (let z : _≡_ {A = ℕ} 0 1 = cc in omega arith)
+    by (Nexts.nothing n) e = absurd (clash (cc))
+    by (Nexts.wrong n t) e = absurd (clash (cc))
+    by (Nexts.short n l) e = absurd (clash (cc))
+    by (Nexts.part l m n) e = absurd (clash (cc))
+    by (Nexts.over l t m) e = absurd (clash (cc))
 
 -- where the piece has all of its bytes, none were held
 empty : (h : List ℕ) → length h ≡ 0 → h ≡ []
@@ -180,7 +182,7 @@ past-none : (k : ℕ) (bs : List ℕ) {contents : List ℕ} → some contents �
 past-none k bs {contents} = by (ltb (length bs) k)
   where
     by : (few : Bool) → some contents ≡ cond few (waiting bs (passing (k - length bs))) (complete k []) .due → contents ≡ []
-    by true e = absurd (let z : _≡_ {A = ℕ} 0 1 = cc in omega arith)
+    by true e = absurd (clash (cc))
     by false e = cc
 
 -- The first part of a frame is what was held of it, and the last what completes it.
@@ -231,4 +233,4 @@ module _ (held : List ℕ) (kept : ℕ) (piece : List ℕ) (size : length held �
           let last = length-take-le used piece within in
           let all = length-append (take (3 + len - used) held) (take used piece) in
           two most within (drop-of-length-le (take (3 + len - used) held ++ take used piece) {i = 3} (omega arith) ∙ sym none)
-      by wrong is d u = absurd (let z : _≡_ {A = ℕ} 0 1 = cc in omega arith)
+      by wrong is d u = absurd (clash (cc))

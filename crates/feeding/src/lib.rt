@@ -160,10 +160,11 @@ fn take_whole(
     let mut at: usize = 0;
     while at < piece.len() {
         let fed = take_piece(session, kept, held, &piece[at..], reals, imags);
-        session = fed.session;
-        kept = fed.kept;
+        let next = fed.session;
         let told = fed.told;
-        filled = fill(told, session.count, filled, answers);
+        filled = fill(told, next.count, filled, answers);
+        session = next;
+        kept = fed.kept;
         at += fed.used;
     }
     Filling {
@@ -212,7 +213,8 @@ impl Feed {
     {
         self.kept != 0
     }
-    // Pieces one after the other, which lie so in `bytes`; `lengths` says how many bytes each takes. Each answer is stored as one number, as far as the list goes.
+    // Pieces one after the other, which lie so in `bytes`; `lengths` says how many bytes each takes.
+    // Each answer is stored as one number, as far as the list goes.
     pub fn take_all(
         self,
         bytes: &[u8],

@@ -1,15 +1,14 @@
 -- `feeding::make_joined` meets its contract: the two parts stand one behind the other at the start of the frame. Assumes nothing.
-use Prim.Native.Nat.{ℕ, _+_, _-_, _≤_}
+use Prim.Native.Nat.{ℕ, _-_}
 use native.Mathlib.Omega.{arith}
 use mathlib.Core.List.{List, _++_}
-use mathlib.Core.Path.{_≡_, refl, sym, ap, _∙_}
+use mathlib.Core.Path.{_≡_, ap, _∙_}
 use lib.ListN.{length, take, drop, length-append, length-drop}
 use lib.Seq.{take-at, drop-append-le}
 use borrow.Author.Needs.{needs}
 use Rattle.stores.proofs.Stored.{store-then, store-first}
-use Rattle.stores.specs.Stores.{store}
 use Rattle.words.specs.Words.{Added}
-use Rattle.feeding.specs.Feeding.{Joins, Makes}
+use Rattle.feeding.specs.Feeding.{Joins}
 use Rattle.feeding.proofs.make_joined.Statement.{statement}
 use Rattle.feeding.proofs.make_joined.Tie as tie
 

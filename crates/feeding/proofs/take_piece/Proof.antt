@@ -1,9 +1,9 @@
 -- `feeding::take_piece` meets its contract, by what is due: of what is held, and of where the frame's contents stand. Assumes nothing.
-use Prim.Native.Nat.{ℕ, _+_, _-_, _≤_, _<_}
+use Prim.Native.Nat.{ℕ, _+_, _-_}
 use native.Mathlib.Omega.{arith}
 use mathlib.Core.List.{List, [], _++_}
 use mathlib.Core.Option.{some, none}
-use mathlib.Core.Path.{_≡_, refl, sym, ap, _∙_, subst}
+use mathlib.Core.Path.{_≡_, sym, ap, _∙_, subst}
 use lib.ListN.{length, take, drop}
 use borrow.Author.Needs.{needs}
 use Rattle.book.specs.Answers.{Buffers, buffers}
@@ -11,11 +11,11 @@ use Rattle.frames.proofs.Streams.{step-within}
 use Rattle.frames.specs.Frames.{nextOf}
 use Rattle.frames.specs.Streams.{Rest, step}
 use Rattle.frames.specs.declared.Next.the-variants.{Whole}
-use Rattle.gathering.specs.Gathering.{mostHeld, restOf, bytesOf, dueOf, IsWhole}
+use Rattle.gathering.specs.Gathering.{mostHeld, restOf, bytesOf, heldOf, dueOf, IsWhole}
 use Rattle.gathering.specs.declared.Due.{Due}
-use Rattle.gathering.specs.declared.Due.the-variants.{Nothing}
 use Rattle.sessions.specs.Deliveries.{meant}
-use Rattle.feeding.proofs.Steps.{Holds, holds-on, stays, nothing-due, made, Sized, sized, none-held, Parts, in-two}
+use Rattle.feeding.specs.Feeding.{form, Takes}
+use Rattle.feeding.proofs.Steps.{Holds, holds-on, stays, nothing-due, made, sized, none-held, Parts, in-two}
 use Rattle.feeding.proofs.take_piece.Statement.{statement}
 use Rattle.feeding.proofs.take_piece.Tie as tie
 
@@ -43,6 +43,11 @@ module _ (g : tie.After-gather) where
   due-at : {d : Due} → g .gather .result .due ≡ d → dueOf d (bytesOf behind ++ piece) ≡ step behind piece .due
   due-at e = sym (ap (λ (d : Due). dueOf d (bytesOf behind ++ piece)) e) ∙ g .gather .ensures .due
 
+  waits : {held′ : List ℕ} → none ≡ step behind piece .due → held′ ≡ heldOf held (step behind piece .rest)
+      → Takes (form (meant (start .args .session)) kept held) lent piece (g .gather .result .used) []
+      (form (meant (start .args .session)) (g .gather .result .kept) held′) lent
+  waits = nothing-due (meant (start .args .session)) lent held kept piece (g .gather .ensures .used) (g .gather .ensures .kept)
+
 size : (c : tie.After-add-arg) → length (held (c .before .before .before .before)) ≡ mostHeld
 size c = omega arith
 
@@ -54,15 +59,13 @@ holding c =
     holds-on (held g) (kept g) (piece g) (size c) (due-at g (told .enum-told .given .1)) (rw (g .gather .ensures .kept) at (c .before .if1 .taken))
 
 add-requires : tie.Need-add-requires
-add-requires c κs = holding c .fits
+add-requires c κs = omega (arith, holding c .fits)
 
 returns-2 : tie.Need-returns-2
 returns-2 c =
     let told = c .before .before .before in
     let g = told .before .before in
-    search
-    (nothing-due (meant (start g .args .session)) (lent g) (held g) (kept g) (piece g) (g .gather .ensures .used) (g .gather .ensures .kept) (due-at g (told .enum-told .given .1))
-    (c .add .ensures .stored ∙ holding (c .before) .is))
+    search (waits g (due-at g (told .enum-told .given .1)) (c .add .ensures .stored ∙ holding (c .before) .is))
 
 returns-3 : tie.Need-returns-3
 returns-3 c =
@@ -70,8 +73,7 @@ returns-3 c =
     let g = told .before .before in
     let due = due-at g (told .enum-told .given .1) in
     let many = rw (g .gather .ensures .kept) at (c .if1 .left) in
-    search
-    (nothing-due (meant (start g .args .session)) (lent g) (held g) (kept g) (piece g) (g .gather .ensures .used) (g .gather .ensures .kept) due (stays (held g) (kept g) (piece g) due many))
+    search (waits g due (stays (held g) (kept g) (piece g) due many))
 
 -- `k` is the place where a frame is due
 
