@@ -4,6 +4,7 @@ use feeding::Told;
 use feeding::take_piece;
 use gathering::STOPPED;
 use sessions::Session;
+ghost use mathlib.Core.List.{[]};
 ghost use mathlib.Core.Path.{_≡_};
 ghost use Rattle.book.specs.Lent.{before, after};
 ghost use Rattle.book.specs.Sessions as Book;
@@ -15,7 +16,9 @@ const WAITING: u32 = 1024;
 
 const WAITING_NO_MORE: u32 = 1025;
 
-fn tell_nothing(kept: u32) -> u32 {
+fn tell_nothing(kept: u32) -> u32
+    ensures { λ r. ⌜ r ≡ fedNumber [] kept ⌝ }
+{
     if kept == STOPPED {
         return WAITING_NO_MORE;
     }

@@ -1,11 +1,12 @@
 -- The laws of a loop that takes a piece step by step: what is left of the piece, taken from here, comes to what all of it comes to from the start. And of one that
 -- takes piece after piece: by where a stream may be cut. They say nothing of where the answers go. Assumes nothing.
-use Prim.Native.Nat.{ℕ, _+_, _≤_, _<_}
+use Prim.Native.Nat.{ℕ, _+_, _-_, _≤_, _<_, min}
+use native.Mathlib.Numerals.{add-one}
 use native.Mathlib.Omega.{arith}
 use mathlib.Core.List.{List, [], _∷_, _++_, append-nil, append-assoc}
-use mathlib.Core.Path.{_≡_, refl, sym, ap, ap₂, _∙_}
-use lib.ListN.{length, drop, length-drop, drop-of-length-le}
-use lib.Seq.{drop-drop, drop-length}
+use mathlib.Core.Path.{_≡_, refl, sym, ap, ap₂, _∙_, subst}
+use lib.ListN.{length, take, drop, getD, length-drop, drop-of-length-le}
+use lib.Seq.{take-all, take-add, drop-drop, drop-length, drop-cons}
 use Rattle.book.specs.Answers.{Buffers}
 use Rattle.book.specs.Lent.{SameSize}
 use Rattle.book.specs.Sessions.{Bench, deliver, deliverAll}
@@ -13,10 +14,11 @@ use Rattle.frames.proofs.Streams.{Settled, step-settled, step-within, step-uses
 use Rattle.frames.specs.Streams.{Rest, begun, passing, stopped, Step, step, Stream, ends as over, goesOn, streamOf}
 use Rattle.gathering.proofs.Kept.{rest-settled, rest-back}
 use Rattle.gathering.specs.Gathering.{restOf, keptOf, heldOf}
+use Rattle.once.proofs.Loop.{lent, behind}
 use Rattle.once.proofs.Runs.{all-once}
-use Rattle.once.specs.AllOnce.{bench}
+use Rattle.once.specs.AllOnce.{cut, bench}
 use Rattle.once.specs.Answered.{Answered, answersOf}
-use Rattle.feeding.specs.Feeding.{Form, restIn, listOf, Takes, TakesAll}
+use Rattle.feeding.specs.Feeding.{Form, restIn, listOf, Takes, joined, TakesAll}
 use Rattle.feeding.proofs.Steps.{Comes, done, holds, passes, stops, comes}
 
 -- ---- deliveries and then others
@@ -67,6 +69,7 @@ module _ {f f′ : Form} {b b′ : Buffers} {bs : List ℕ} {n : ℕ} {t : List 
       stepped (restIn f) bs settled
       ∙ ap₂ (λ (r : Rest) (k : ℕ). before (listOf (first .due)) (streamOf r (drop k bs))) (sym left-is) (sym (h .used))
 
+  -- while bytes are left, some are used
   pub uses : 0 < length bs → 0 < n
   uses some = omega (arith, h .used, step-uses (restIn f) bs settled some)
 
@@ -95,24 +98,29 @@ pub record Left (f : Form) (b : Buffers) (piece : List ℕ) (at : ℕ) (t : List
 pub begins : (f : Form) (b : Buffers) (piece : List ℕ) → Left f b piece 0 [] f b
 begins f b piece = record { within = omega arith; same = record { reals = refl; imags = refl }; rest = refl; run = refl; told = refl }
 
+-- the code lends all that is left of the piece
+pub all-left : {f f′ : Form} {b b′ : Buffers} (piece : List ℕ) (at : ℕ) {n : ℕ} {t : List Answered}
+    → Takes f b (take (length piece - at) (drop at piece)) n t f′ b′ → Takes f b (drop at piece) n t f′ b′
+all-left piece at h = rw (take-all (length piece - at) (drop at piece) (omega (arith, length-drop at piece))) at h
+
 -- one step
 pub turn : {f f₁ f₂ : Form} {b b₁ b₂ : Buffers} {piece : List ℕ} {at n : ℕ} {t u : List Answered}
     → Left f b piece at t f₁ b₁ → Takes f₁ b₁ (drop at piece) n u f₂ b₂ → SameSize b₁ b₂ → Left f b piece (at + n) (t ++ u) f₂ b₂
 turn {f} {f₁} {f₂} {b} {b₁} {b₂} {piece} {at} {n} {t} {u} h s keeps =
     let here : Stream = streamOf (restIn f₂) (drop n (drop at piece)) in
     let whole = stream-is s in
-    let behind : streamOf (restIn f₂) (drop (at + n) piece) ≡ here = ap (streamOf (restIn f₂)) (sym (drop-drop n at piece)) in
+    let next : streamOf (restIn f₂) (drop (at + n) piece) ≡ here = ap (streamOf (restIn f₂)) (sym (drop-drop n at piece)) in
     record {
       within = omega (arith, h .within, within s, length-drop at piece);
       same = record { reals = keeps .reals ∙ h .same .reals; imags = keeps .imags ∙ h .same .imags };
-      rest = ap (λ (st : Stream). st .rest) behind ∙ sym (ap (λ (st : Stream). st .rest) whole) ∙ h .rest;
+      rest = ap (λ (st : Stream). st .rest) next ∙ sym (ap (λ (st : Stream). st .rest) whole) ∙ h .rest;
       run =
-          ap (λ (st : Stream). deliverAll (bench (f₂ .session) b₂) (st .deliveries)) behind
+          ap (λ (st : Stream). deliverAll (bench (f₂ .session) b₂) (st .deliveries)) next
           ∙ run-is s (here .deliveries)
           ∙ sym (ap (λ (st : Stream). deliverAll (bench (f₁ .session) b₁) (st .deliveries)) whole)
           ∙ h .run;
       told =
-          ap (λ (st : Stream). t ++ u ++ answersOf (bench (f₂ .session) b₂) (st .deliveries)) behind
+          ap (λ (st : Stream). t ++ u ++ answersOf (bench (f₂ .session) b₂) (st .deliveries)) next
           ∙ append-assoc t u (answersOf (bench (f₂ .session) b₂) (here .deliveries))
           ∙ ap (λ (l : List Answered). t ++ l)
           (told-is s (here .deliveries) ∙ sym (ap (λ (st : Stream). answersOf (bench (f₁ .session) b₁) (st .deliveries)) whole))
@@ -161,3 +169,44 @@ more {f} {f₁} {f₂} {b} {b₁} {b₂} {xs} {ys} {t} {u} p q =
           ∙ sym (answers-on x ds es)
           ∙ sym (ap (λ (st : Stream). answersOf x (st .deliveries)) whole);
     }
+
+-- the pieces lie one behind the other in one buffer; `i` of them are taken, which are its first `at` bytes
+pub record Pieces (bytes lengths : List ℕ) (f : Form) (b : Buffers) (at i : ℕ) (t : List Answered) (f′ : Form) (b′ : Buffers) : Type 0 where
+  pub within : at ≤ length bytes
+  pub same : SameSize b b′
+  pub taken : TakesAll f b (take at bytes) t f′ b′
+  pub left : take at bytes ++ joined (cut (drop at bytes) (drop i lengths)) ≡ joined (cut bytes lengths)
+
+pub no-pieces : (bytes lengths : List ℕ) (f : Form) (b : Buffers) → Pieces bytes lengths f b 0 0 [] f b
+no-pieces bytes lengths f b = record { within = omega arith; same = record { reals = refl; imags = refl }; taken = none-taken f b; left = refl }
+
+pub next-piece : {bytes lengths : List ℕ} {f f₁ f₂ : Form} {b b₁ b₂ : Buffers} {at i size : ℕ} {t u : List Answered}
+    → Pieces bytes lengths f b at i t f₁ b₁ → i < length lengths → size ≡ min (getD lengths i 0) (length bytes - at)
+    → TakesAll f₁ b₁ (take (at + size - at) (drop at bytes)) u f₂ b₂ → SameSize b₁ b₂ → Pieces bytes lengths f b (at + size) (i + 1) (t ++ u) f₂ b₂
+next-piece {bytes} {lengths} {f} {f₁} {f₂} {b} {b₁} {b₂} {at} {i} {size} {t} {u} h room is took keeps =
+    let l = getD lengths i 0 in
+    let here = take at bytes in
+    let rest = joined (cut (drop l (drop at bytes)) (drop (i + 1) lengths)) in
+    let all : at + size - at ≡ size = omega arith in
+    let both : take (at + size) bytes ≡ here ++ take (at + size - at) (drop at bytes) =
+    take-add at size bytes ∙ ap (λ (k : ℕ). here ++ take k (drop at bytes)) (sym all) in
+    record {
+      within = omega (arith, h .within, is);
+      same = record { reals = keeps .reals ∙ h .same .reals; imags = keeps .imags ∙ h .same .imags };
+      taken = rw both (more (h .taken) took);
+      left =
+          ap₂ (λ (x y : List ℕ). x ++ joined (cut y (drop (i + 1) lengths)))
+          (both ∙ ap (λ (x : List ℕ). here ++ x) (lent bytes at l size is))
+          (behind bytes at l size is)
+          ∙ append-assoc here (take l (drop at bytes)) rest
+          ∙ ap (λ (ls : List ℕ). here ++ joined (cut (drop at bytes) ls)) (ap (λ (k : ℕ). l ∷ drop k lengths) (add-one i) ∙ sym (drop-cons lengths i 0 room))
+          ∙ h .left;
+    }
+
+pub all-pieces : {bytes lengths : List ℕ} {f f′ : Form} {b b′ : Buffers} {at i : ℕ} {t : List Answered}
+    → Pieces bytes lengths f b at i t f′ b′ → length lengths ≤ i → TakesAll f b (joined (cut bytes lengths)) t f′ b′
+all-pieces {bytes} {lengths} {f} {f′} {b} {b′} {at} {i} {t} h past =
+    let none : joined (cut (drop at bytes) (drop i lengths)) ≡ [] =
+    ap (λ (ls : List ℕ). joined (cut (drop at bytes) ls)) (drop-of-length-le lengths past) in
+    let all = sym (append-nil (take at bytes)) ∙ ap (λ (l : List ℕ). take at bytes ++ l) (sym none) ∙ h .left in
+    subst (λ (l : List ℕ). TakesAll f b l t f′ b′) all (h .taken)

@@ -1,5 +1,5 @@
 -- A form that takes bytes as they come, and what a piece does to it: the contracts of this crate. Definitions only. Assumes nothing.
-use Prim.Native.Nat.{ℕ, _+_, _*_, _≤_}
+use Prim.Native.Nat.{ℕ, _+_, _*_, _≤_, min}
 use mathlib.Core.Bool.{Bool, true, false}
 use mathlib.Core.List.{List, [], _∷_, _++_, map}
 use mathlib.Core.Option.{Option, some, none}
@@ -91,6 +91,17 @@ pub record TakesAll (f : Form) (b : Buffers) (bytes : List ℕ) (t : List Answer
   pub rest : restIn f′ ≡ streamOf (restIn f) bytes .rest
   pub once : AllOnce (f .session) b (streamOf (restIn f) bytes .deliveries) (f′ .session) b′
   pub told : t ≡ answersOf (bench (f .session) b) (streamOf (restIn f) bytes .deliveries)
+
+-- The answers' numbers are stored from a place of a list on, as far as it goes: up to where.
+pub record Filled (before : List ℕ) (at : ℕ) (t : List Answered) (next : ℕ) (after : List ℕ) : Type 0 where
+  pub behind : next ≡ min (at + length t) (length before)
+  pub stored : after ≡ store before at (map numbered t)
+
+-- both, for a caller who goes on
+pub record Went (f : Form) (b : Buffers) (bytes : List ℕ) (at : ℕ) (before : List ℕ) (f′ : Form) (b′ : Buffers) (next : ℕ) (after : List ℕ) : Type 0 where
+  pub answers : List Answered
+  pub takes : TakesAll f b bytes answers f′ b′
+  pub filled : Filled before at answers next after
 
 abbrev pub Fills : Form → Buffers → List ℕ → List ℕ → List ℕ → Form → Buffers → Type 0
 Fills f b bytes before after f′ b′ = (t : List Answered) × TakesAll f b bytes t f′ b′ × (after ≡ store before 0 (map numbered t))

@@ -1,16 +1,20 @@
 // A form that takes bytes as they come, and makes each delivery when its frame is complete: it takes itself and a piece, and hands back the next one.
+use answers::tell_reply;
 use book::Reply;
 use gathering::Due;
 use gathering::STOPPED;
 use gathering::gather;
+use once::next_size;
 use sessions::Session;
 use words::add;
 ghost use mathlib.Core.Path.{_≡_};
 ghost use mathlib.Core.List.{_++_};
+ghost use Prim.Native.Nat.{_≤_};
 ghost use lib.ListN.{length, drop, replicate};
 ghost use Rattle.book.specs.Lent.{before, after};
+ghost use Rattle.once.specs.AllOnce.{cut};
 ghost use Rattle.sessions.specs.Deliveries.{meant};
-ghost use Rattle.feeding.specs.Feeding.{form, formOf, restIn, cuts, toldOf, Joins, Makes, Takes};
+ghost use Rattle.feeding.specs.Feeding.{form, formOf, restIn, cuts, toldOf, Joins, Makes, Takes, joined, Filled, Went, Fills};
 
 // A session, and what is kept of the stream between two pieces: at most 97 bytes, and a number (crate gathering says which).
 pub struct Feed {
@@ -114,6 +118,61 @@ pub fn take_piece(
     }
 }
 
+// Between two pieces whose answers are stored in a list: how many of its places are filled.
+struct Filling {
+    session: Session,
+    kept: u32,
+    filled: usize,
+}
+
+// What was told goes into the list as one number, where it has room.
+fn fill(told: Told, count: u16, filled: usize, answers: &mut [u32]) -> usize
+    requires { ⌜ filled ≤ length (now answers) ⌝ }
+    ensures { λ r. ⌜ Filled (now (answers .entry)) filled (toldOf told count) r (now (answers .exit)) ⌝ }
+{
+    let Told::Reply(reply) = told else {
+        return filled;
+    };
+    if filled < answers.len() {
+        answers[filled] = tell_reply(reply) * 65536 + count as u32;
+        return filled + 1;
+    }
+    filled
+}
+
+// All of a piece, step by step.
+fn take_whole(
+    from: Filling,
+    held: &mut [u8; 97],
+    piece: &[u8],
+    answers: &mut [u32],
+    reals: &mut [f64],
+    imags: &mut [f64],
+) -> Filling
+    requires { ⌜ from .filled ≤ length (now answers) ⌝ }
+    ensures { λ r. ⌜ Went (form (meant (from .session)) (from .kept) (now (held .entry))) (before reals imags) (now (piece .entry))
+        (from .filled) (now (answers .entry)) (form (meant (r .session)) (r .kept) (now (held .exit))) (after reals imags)
+        (r .filled) (now (answers .exit)) ⌝ }
+{
+    let mut session = from.session;
+    let mut kept = from.kept;
+    let mut filled = from.filled;
+    let mut at: usize = 0;
+    while at < piece.len() {
+        let fed = take_piece(session, kept, held, &piece[at..], reals, imags);
+        session = fed.session;
+        kept = fed.kept;
+        let told = fed.told;
+        filled = fill(told, session.count, filled, answers);
+        at += fed.used;
+    }
+    Filling {
+        session,
+        kept,
+        filled,
+    }
+}
+
 impl Feed {
     // Behind the header nothing is kept.
     pub fn start(session: Session) -> Feed
@@ -152,5 +211,40 @@ impl Feed {
         ensures { λ r. ⌜ r ≡ cuts (restIn (formOf self)) ⌝ }
     {
         self.kept != 0
+    }
+    // Pieces one after the other, which lie so in `bytes`; `lengths` says how many bytes each takes. Each answer is stored as one number, as far as the list goes.
+    pub fn take_all(
+        self,
+        bytes: &[u8],
+        lengths: &[usize],
+        answers: &mut [u32],
+        reals: &mut [f64],
+        imags: &mut [f64],
+    ) -> Feed
+        ensures { λ r. ⌜ Fills (formOf self) (before reals imags) (joined (cut (now (bytes .entry)) (now (lengths .entry))))
+            (now (answers .entry)) (now (answers .exit)) (formOf r) (after reals imags) ⌝ }
+    {
+        let mut held = self.held;
+        let start = self.session;
+        let mut filling = Filling {
+            session: start,
+            kept: self.kept,
+            filled: 0,
+        };
+        let mut at: usize = 0;
+        let mut i: usize = 0;
+        while i < lengths.len() {
+            let size = next_size(lengths[i], bytes.len() - at);
+            let end = at + size;
+            filling = take_whole(filling, &mut held, &bytes[at..end], answers, reals, imags);
+            at = end;
+            i += 1;
+        }
+        let session = filling.session;
+        Feed {
+            session,
+            kept: filling.kept,
+            held,
+        }
     }
 }

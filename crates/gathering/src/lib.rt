@@ -77,6 +77,9 @@ pub fn gather(held: &[u8; 97], kept: u32, piece: &[u8]) -> Gathered
     ensures { λ r. ⌜ Gathers (step (restOf (now (held .entry)) kept) (now (piece .entry)))
         (bytesOf (restOf (now (held .entry)) kept) ++ now (piece .entry)) r ⌝ }
 {
+    if kept == 0 {
+        return go_on(&piece[..0], piece);
+    }
     if STOPPED < kept {
         return read_past((kept - STOPPED) as usize, piece);
     }

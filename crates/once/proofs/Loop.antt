@@ -30,10 +30,10 @@ module _ (bytes : List ℕ) (at l size : ℕ) (is : size ≡ min l (length bytes
   fewer = is ∙ ap (min l) (sym (length-drop at bytes))
 
   -- the part that is lent, and what lies behind it
-  lent : take (at + size - at) (drop at bytes) ≡ take l (drop at bytes)
+  pub lent : take (at + size - at) (drop at bytes) ≡ take l (drop at bytes)
   lent = let e : at + size - at ≡ size = omega arith in ap (λ (k : ℕ). take k (drop at bytes)) (e ∙ fewer) ∙ take-min l (drop at bytes)
 
-  behind : drop (at + size) bytes ≡ drop l (drop at bytes)
+  pub behind : drop (at + size) bytes ≡ drop l (drop at bytes)
   behind = sym (drop-drop size at bytes) ∙ ap (λ (k : ℕ). drop k (drop at bytes)) fewer ∙ drop-min l (drop at bytes)
 
 -- ---- the loop

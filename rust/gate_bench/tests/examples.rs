@@ -270,3 +270,50 @@ fn one_nan() {
         assert_eq!(left(&|re, im| u_apply(re, im, 1, 0, 0, g)), [NAN; 4]);
     }
 }
+
+/// 20, a length of two bytes, and the record.
+fn frame(contents: &[u8]) -> Vec<u8> {
+    [&[0x20][..], &(contents.len() as u16).to_be_bytes(), contents].concat()
+}
+
+/// What a stream gives in pieces of these sizes: replies with their counts, the state, and what is left at the end.
+fn fed(sent: &[u8], pieces: &[usize]) -> (Vec<(Reply, u16)>, [u64; 2], bool, bool) {
+    let mut stream = Stream::new(Session::start(1, 7).expect("one qubit"));
+    let (mut reals, mut imags) = ([1.0, 0.0], [0.0; 2]);
+    let (mut replies, mut rest) = (Vec::new(), sent);
+    for size in pieces.iter().cycle() {
+        let (mut piece, behind) = rest.split_at(rest.len().min(*size));
+        while let Some(reply) = stream.take(&mut piece, &mut reals, &mut imags) {
+            replies.push((reply, stream.session().count()));
+        }
+        assert!(piece.is_empty());
+        rest = behind;
+        if rest.is_empty() {
+            break;
+        }
+    }
+    (replies, [reals[0].to_bits(), reals[1].to_bits()], stream.is_cut(), stream.is_stopped())
+}
+
+#[test]
+fn a_stream_cut_anywhere() {
+    let sent = [frame(&x_numbered(0)), frame(&[]), frame(&x_numbered(0)), frame(&[9; 300]), frame(&x_numbered(1)), vec![0x20, 0]].concat();
+    let whole = fed(&sent, &[sent.len()]);
+    let refused = Reply::Refused(Refusal::Record);
+    assert_eq!(whole.0, [(Reply::Taken, 1), (refused, 1), (Reply::Again, 1), (refused, 1), (Reply::Taken, 2)]);
+    assert_eq!((whole.1, whole.2, whole.3), ([1f64.to_bits(), 0], true, false));
+    for size in 1..sent.len() {
+        assert_eq!(fed(&sent, &[size]), whole, "pieces of {size}");
+        assert_eq!(fed(&sent, &[size, 0, sent.len()]), whole, "cut at {size}");
+    }
+}
+
+#[test]
+fn behind_a_wrong_tag_nothing_changes() {
+    let sent = [frame(&x_numbered(0)), vec![b'\n'], frame(&x_numbered(1))].concat();
+    let whole = fed(&sent, &[sent.len()]);
+    assert_eq!(whole, (vec![(Reply::Taken, 1)], [0, 1f64.to_bits()], true, true));
+    for size in 1..sent.len() {
+        assert_eq!(fed(&sent, &[size]), whole, "pieces of {size}");
+    }
+}
