@@ -1,2 +1,2 @@
--- Whole: pieces one after the other, and what stands behind them. Agree: print_all has one answer.
+-- Whole: pieces one after the other, what stands behind them, and what a header adds.
 mod Whole

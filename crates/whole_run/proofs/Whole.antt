@@ -71,17 +71,17 @@ closed {x} {x′} {b} {b′} {bytes} p put first fresh =
     ap₂ (λ (t : List Answered) (r : Rest). answerLines (x .index) t ++ closing (cuts r) (x′ .form .session) b′) (p .takes .told) (p .takes .rest)
     ∙ ap
     (λ (y : Bench). let st = streamOf (restIn (x .form)) bytes in
-      answerLines (x .index) (answersOf run (st .deliveries)) ++ closing (cuts (st .rest)) (y .session) (y .state))
+    answerLines (x .index) (answersOf run (st .deliveries)) ++ closing (cuts (st .rest)) (y .session) (y .state))
     (p .takes .once .run)
     ∙ ap₂ (λ (i : ℕ) (r : Rest). lines i r run bytes) first fresh in
     rw same at put-all
 
 -- ---- from the start
 
-pub from-start : (n own : ℕ) {x : Run} {b : Buffers} {bytes l l′ : List ℕ} {next : ℕ} → x ≡ fresh n own → b ≡ firstState n
+pub from-start : (n own : ℕ) (bytes : List ℕ) {x : Run} {b : Buffers} {l l′ : List ℕ} {next : ℕ} → x ≡ fresh n own → b ≡ firstState n
     → (x .index ≡ 0 → restIn (x .form) ≡ begun [] → Put (linesOf (x .form .session) b bytes) l 0 next l′)
     → Put (linesOf (session n own 0) (firstState n) bytes) l 0 next l′
-from-start n own {bytes = bytes} {l} {l′} {next} is state put =
+from-start n own bytes {l = l} {l′ = l′} {next = next} is state put =
     subst (λ (ws : List ℕ). Put ws l 0 next l′)
     (ap₂ (λ (y : Run) (c : Buffers). linesOf (y .form .session) c bytes) is state)
     (put (ap (λ (y : Run). y .index) is) (ap (λ (y : Run). restIn (y .form)) is ∙ fresh-rest n own))

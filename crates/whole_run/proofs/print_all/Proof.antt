@@ -3,12 +3,6 @@ use borrow.Author.Needs.{needs}
 use Rattle.whole_run.proofs.Whole.{printed-good, printed-bad}
 use Rattle.whole_run.proofs.print_all.Statement.{statement}
 use Rattle.whole_run.proofs.print_all.Tie as tie
-use Rattle.whole_run.proofs.print_all.Reads as reads
-use Rattle.whole_run.proofs.print_all.Lts as lts
-use Rattle.frames.proofs.read_header.Reads as read-header-reads
-use Rattle.printing.proofs.put_bad_header.Reads as put-bad-header-reads
-use Rattle.whole_run.proofs.put_run.Reads as put-run-reads
-use Rattle.whole_run.proofs.behind_header.Reads as behind-header-reads
 
 put-run-requires : tie.Need-put-run-requires
 put-run-requires c κs =

@@ -7,11 +7,6 @@ use Rattle.program.proofs.First.{places, shifted, first-lent}
 use Rattle.whole_run.proofs.Whole.{from-start}
 use Rattle.whole_run.proofs.put_run.Statement.{statement}
 use Rattle.whole_run.proofs.put_run.Tie as tie
-use Rattle.whole_run.proofs.put_run.Reads as reads
-use Rattle.whole_run.proofs.put_run.Lts as lts
-use Rattle.program.proofs.start.Reads as start-reads
-use Rattle.program.proofs.first_reals.Reads as first-reals-reads
-use Rattle.whole_run.proofs.put_lines.Reads as put-lines-reads
 
 part-reals-end : tie.Need-part-reals-end
 part-reals-end c =
@@ -33,7 +28,8 @@ returns c =
     let first = made .before in
     let start = first .before .before .before in
     let n = start .args .n in
-    from-start n (start .args .number) (made .start .ensures) (first-lent n (start .pre) (first .first-reals .result) (first .first-reals .ensures) refl)
+    from-start n (start .args .number) (start .args .frames .now) (made .start .ensures)
+    (first-lent n (start .pre) (first .first-reals .result) (first .first-reals .ensures) refl)
     (put .put-lines .ensures)
 
 pub put-run-spec : {M : Type 1} → statement M
