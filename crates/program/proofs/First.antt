@@ -1,13 +1,17 @@
 -- The state at the start: what is 1 and then zeros in all places is so in the first of them. Assumes nothing.
-use Prim.Native.Nat.{ℕ, zero, suc, _+_, _-_, _^_, _≤_}
+use Prim.Native.Nat.{ℕ, zero, suc, _*_, _-_, _%_, _^_, _≤_}
 use native.Mathlib.Nat.{pow-le-pow-right}
 use native.Mathlib.Omega.{arith}
 use mathlib.Core.List.{List, [], _∷_, map}
-use mathlib.Core.Path.{_≡_, refl, sym, ap, ap₂, _∙_}
+use mathlib.Core.Path.{_≡_, refl, ap, ap₂, _∙_}
 use lib.Ieee.{Float}
 use lib.ListN.{take, replicate}
+use Rattle.book.specs.Answers.{buffers}
 use Rattle.book.specs.Examples.{whole}
-use Rattle.program.specs.Program.{firstState}
+use Rattle.feeding.specs.Feeding.{restIn}
+use Rattle.frames.specs.Streams.{begun}
+use Rattle.gathering.proofs.Kept.{none-kept}
+use Rattle.program.specs.Program.{firstState, fresh}
 
 -- as many places as n qubits have
 pub places : (n : ℕ) → n ≤ 11 → (1 ≤ 2 ^ n) × (2 ^ n ≤ 2048)
@@ -30,5 +34,19 @@ module _ (n : ℕ) (few : n ≤ 11) where
   pub first-real : {o z : Float} (m : ℕ) → o ≡ whole 1 → z ≡ whole 0 → 2047 ≤ m → take (2 ^ n) (o ∷ replicate m z) ≡ firstState n .reals
   first-real {o} {z} m one none enough = filled o z whole n m one none few enough
 
-  pub first-imaginary : {z : Float} (m : ℕ) → z ≡ whole 0 → 2047 ≤ m → take (2 ^ n) (replicate (suc m) z) ≡ firstState n .imags
-  first-imaginary {z} m none enough = filled z z (λ k. whole 0) n m none none few enough
+  first-imaginary : {z : Float} → z ≡ whole 0 → take (2 ^ n) (replicate 2048 z) ≡ firstState n .imags
+  first-imaginary {z} none = filled z z (λ k. whole 0) n 2047 none none few (omega arith)
+
+  -- the code's 1 << n
+  pub shifted : (1 * 2 ^ n) % 2 ^ 64 - 0 ≡ 2 ^ n
+  shifted = omega (arith, places n few .0, places n few .1)
+
+  -- what is lent of both buffers
+  pub first-lent : (reals : List Float) {z : Float} → ((m : ℕ) → m ≤ 11 → take (2 ^ m) reals ≡ firstState m .reals) → z ≡ whole 0
+      → let size = (1 * 2 ^ n) % 2 ^ 64 - 0 in buffers (take size reals) (take size (replicate 2048 z)) ≡ firstState n
+  first-lent reals {z} are none =
+      ap₂ buffers (ap (λ (k : ℕ). take k reals) shifted ∙ are n few) (ap (λ (k : ℕ). take k (replicate 2048 z)) shifted ∙ first-imaginary none)
+
+-- behind the header nothing is kept
+pub fresh-rest : (n own : ℕ) → restIn (fresh n own .form) ≡ begun []
+fresh-rest n own = none-kept (replicate 97 0)

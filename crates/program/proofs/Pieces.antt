@@ -6,12 +6,11 @@ use native.Mathlib.Omega.{arith}
 use mathlib.Core.List.{List, [], _∷_, _++_, append-assoc, append-nil}
 use mathlib.Core.Path.{_≡_, refl, sym, ap, _∙_}
 use lib.ListN.{length, take, drop, length-append, length-drop}
-use lib.Seq.{take-all}
 use Rattle.book.specs.Answers.{Buffers, replies}
 use Rattle.book.specs.Lent.{SameSize}
 use Rattle.book.specs.declared.Reply.{Reply}
 use Rattle.delivery_lines.specs.Deliveries.{deliveryLine}
-use Rattle.feeding.proofs.Loop.{Left, begins, turn, uses, ends, none-taken, more}
+use Rattle.feeding.proofs.Loop.{Left, begins, all-left, turn, uses, ends, none-taken, more}
 use Rattle.feeding.specs.Feeding.{Form, Takes, toldOf}
 use Rattle.feeding.specs.declared.Told.{Told}
 use Rattle.feeding.specs.declared.Told.the-variants.{Nothing, Reply as Replied}
@@ -94,15 +93,13 @@ goes {x} {b} {piece} small here = record { answers = []; left = begins (x .form)
 -- one step: all that is left of the piece is lent
 module _ {x x₁ : Run} {b b₁ b₂ : Buffers} {piece l l₁ : List ℕ} {at at₁ done n : ℕ} {u : List Answered} {f : Form}
     (g : Going x b piece l at done x₁ b₁ at₁ l₁) (takes : Takes (x₁ .form) b₁ (take (length piece - done) (drop done piece)) n u f b₂) where
-  lent : Takes (x₁ .form) b₁ (drop done piece) n u f b₂
-  lent = rw (take-all (length piece - done) (drop done piece) (omega (arith, length-drop done piece))) at takes
-
   pub goes-far : done < length piece → 0 < n
-  goes-far some = uses lent (omega (arith, length-drop done piece))
+  goes-far some = uses (all-left piece done takes) (omega (arith, length-drop done piece))
 
   pub goes-on : {i at₂ : ℕ} {l₂ : List ℕ} → x .index < 2 ^ 64 → SameSize b₁ b₂ → Lined (x₁ .index) u l₁ at₁ i at₂ l₂
       → Going x b piece l at (done + n) (record { index = i; form = f }) b₂ at₂ l₂
-  goes-on small same lined = record { answers = g .answers ++ u; left = turn (g .left) lent same; lined = lined-then small (g .lined) lined }
+  goes-on small same lined =
+      record { answers = g .answers ++ u; left = turn (g .left) (all-left piece done takes) same; lined = lined-then small (g .lined) lined }
 
 pub gone : {x x′ : Run} {b b′ : Buffers} {piece l l′ : List ℕ} {at next done : ℕ}
     → Going x b piece l at done x′ b′ next l′ → length piece ≤ done → Prints x b piece l at x′ b′ next l′
