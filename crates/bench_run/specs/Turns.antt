@@ -1,13 +1,22 @@
--- What the program hands to write, of what read handed over: a turn's, and what stands behind the last. Definitions only. Assumes nothing.
-use Prim.Native.Nat.{ℕ, _+_, _%_, _^_}
+-- What the program hands to write, of what read handed over: the start, a turn's, and what stands behind the last. Definitions only. Assumes nothing.
+use Prim.Native.Nat.{ℕ, _+_, _%_, _^_, _≤_}
 use mathlib.Core.List.{List}
 use mathlib.Core.Path.{_≡_}
 use lib.ListN.{length}
 use Rattle.book.specs.Answers.{Buffers}
 use Rattle.feeding.specs.Feeding.{restIn, cuts, TakesAll}
+use Rattle.frames.specs.Frames.{mostInProgram}
 use Rattle.once.specs.Answered.{Answered}
 use Rattle.printing.specs.Printed.{answerLines, closing}
-use Rattle.program.specs.Program.{Run}
+use Rattle.program.specs.Program.{firstState, Run, fresh}
+
+-- The start, behind a good header: a session that starts, and the state real 1 at index 0.
+pub record Begins (x : Run) (b : Buffers) : Type 0 where
+  pub n : ℕ
+  pub own : ℕ
+  pub few : n ≤ mostInProgram
+  pub run : x ≡ fresh n own
+  pub state : b ≡ firstState n
 
 -- A turn: what was read is taken, and what is written are the lines of its answers, all of them.
 pub record Writes (x : Run) (b : Buffers) (read written : List ℕ) (x′ : Run) (b′ : Buffers) : Type 0 where

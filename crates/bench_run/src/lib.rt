@@ -2,6 +2,9 @@
 // Here it reads and writes; what it makes of what it read, and what it hands on to be written, is program's.
 ghost use Prim.Native.Nat.{_≤_, _<_};
 ghost use lib.ListN.{length};
+ghost use Rattle.book.specs.Lent.{here};
+ghost use Rattle.program.specs.Program.{runOf};
+ghost use Rattle.bench_run.specs.Turns.{Begins};
 
 mod turns;
 
@@ -92,7 +95,7 @@ fn write_closing(end: Running, reals: &[f64], imags: &[f64]) -> bool
 
 // The frames, and then the state behind them.
 fn run_session(input: i32, start: Running, reals: &mut [f64], imags: &mut [f64]) -> Ended
-    requires { ⌜ length (now reals) ≤ 2048 ⌝ }
+    requires { ⌜ Begins (runOf start) (here reals imags) ⌝ }
 {
     let behind = take_input(input, start, reals, imags);
     let end = behind.end;

@@ -13,7 +13,7 @@ bad-header-spec =
     (λ c. search needs)
     (λ c κs. search needs)
     (λ c. search needs)
-    (λ c. sym (length-take-le _ _ (put-within (c .before .put-bad-header .ensures))))
+    (λ c. sym (length-take-le _ _ (put-within (c .before .before .put-bad-header .ensures))))
     (λ c κs. search needs)
     (λ c κs. search needs)
     (λ c. search needs))
