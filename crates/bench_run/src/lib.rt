@@ -66,8 +66,7 @@ fn left(turns: u64, more: bool) -> u64
 
 // Reads to the end, and writes what has been answered before more is waited for. Nothing says that an input ends: the turns are counted down from a number that
 // no run uses up.
-fn take_input(input: i32, start: Running, reals: &mut [f64], imags: &mut [f64]) -> Behind
-{
+fn take_input(input: i32, start: Running, reals: &mut [f64], imags: &mut [f64]) -> Behind {
     let mut chunk = [0u8; PIECE];
     let mut out = [0u8; OUT];
     let mut end = start;
@@ -113,7 +112,12 @@ fn run_bench(input: i32, n: u32, number: u32) -> Ended
     let size: usize = 1 << n;
     let mut reals = program::first_reals();
     let mut imags = [0.0; MOST_PLACES];
-    run_session(input, program::start(n, number), &mut reals[0..size], &mut imags[0..size])
+    run_session(
+        input,
+        program::start(n, number),
+        &mut reals[0..size],
+        &mut imags[0..size],
+    )
 }
 
 // Only this line.

@@ -55,8 +55,7 @@ pub tells-fed-agree : {f f₁ f₂ : Form} {b b₁ b₂ : Buffers} {piece : List
 tells-fed-agree x y =
     let same = x .takes .run ∙ sym (y .takes .run) in
     let kept = x .takes .kept ∙ sym (y .takes .kept) in
-    let held = x .takes .held ∙ sym (y .takes .held) in
-    (
+    let held = x .takes .held ∙ sym (y .takes .held) in (
       x .tells ∙ ap₂ fedNumber (x .takes .told ∙ sym (y .takes .told)) kept ∙ sym (y .tells),
       x .takes .used ∙ sym (y .takes .used),
       λ i. form (same i .session) (kept i) (held i),
