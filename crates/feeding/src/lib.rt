@@ -213,6 +213,7 @@ impl Feed {
     {
         self.kept != 0
     }
+
     // Pieces one after the other, which lie so in `bytes`; `lengths` says how many bytes each takes.
     // Each answer is stored as one number, as far as the list goes.
     pub fn take_all(
