@@ -1,5 +1,5 @@
-// The program: reads a header and frames from its input, and writes the lines of document 01 to standard output. The input has any size and comes in any pieces.
-// Here it reads and writes; what it makes of what it read, and what it hands on to be written, is program's.
+// The program: reads a header and frames from its input, and writes the lines of document 01 to standard output. The input has any size and comes in
+// any pieces. Here it reads and writes; what it makes of what it read, and what it hands on to be written, is program's.
 ghost use Prim.Native.Nat.{_≤_, _<_};
 ghost use lib.ListN.{length};
 ghost use Rattle.book.specs.Lent.{here};

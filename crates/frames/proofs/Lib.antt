@@ -1,4 +1,4 @@
 -- Reading: a header by the tests of the code. Nexts: what bytes begin with. Streams: a stream cut anywhere.
-mod Reading
+pub mod Reading
 pub mod Nexts
 pub mod Streams

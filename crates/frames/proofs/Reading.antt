@@ -4,7 +4,7 @@ use native.Mathlib.Nat.{add-zero, zero-add}
 use native.Mathlib.Omega.{arith}
 use mathlib.Core.Bool.{Bool, true, false, _&&_}
 use mathlib.Core.Path.{_≡_, refl, ap, _∙_}
-use mathlib.Core.List.{List, _++_}
+use mathlib.Core.List.{List, [], _∷_, _++_}
 use lib.Dec.{eqb}
 use lib.ListN.{length, take, drop, getD, List·getD-append}
 use lib.Seq.{getD-append-add}
@@ -75,3 +75,18 @@ module _ (first second : List ℕ) (i : ℕ) where
   in-second h =
       let e : i ≡ length first + (i - length first) = omega arith in
       ap (λ (k : ℕ). getD (first ++ second) k 0) e ∙ getD-append-add first second (i - length first) 0
+
+-- ---- eight bytes are enough
+
+-- the program reads these and no more before it judges the header
+pub header-eight : (bs : List ℕ) → headerOf (take 8 bs) ≡ headerOf bs
+header-eight [] = refl
+header-eight (a ∷ []) = refl
+header-eight (a ∷ b ∷ []) = refl
+header-eight (a ∷ b ∷ c ∷ []) = refl
+header-eight (a ∷ b ∷ c ∷ d ∷ []) = refl
+header-eight (a ∷ b ∷ c ∷ d ∷ e ∷ []) = refl
+header-eight (a ∷ b ∷ c ∷ d ∷ e ∷ f ∷ []) = refl
+header-eight (a ∷ b ∷ c ∷ d ∷ e ∷ f ∷ g ∷ []) = refl
+header-eight (a ∷ b ∷ c ∷ d ∷ e ∷ f ∷ g ∷ h ∷ bs) =
+    rw (le-leb 8 (length (a ∷ b ∷ c ∷ d ∷ e ∷ f ∷ g ∷ h ∷ bs)) (omega arith))

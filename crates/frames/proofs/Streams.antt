@@ -67,7 +67,8 @@ past-on k l bs ys e = by (ltb (length ys) l) refl
         ∙ ap (later (length bs)) (sym (past-done l ys h))
 
 -- for any step that comes to reading past
-past-behind : (r : Rest) (k : ℕ) (bs : List ℕ) → step r bs ≡ past k bs → (Settled r → 0 < k) → ((ys : List ℕ) → step r (bs ++ ys) ≡ past k (bs ++ ys)) → Behind r bs
+past-behind : (r : Rest) (k : ℕ) (bs : List ℕ) → step r bs ≡ past k bs → (Settled r → 0 < k)
+    → ((ys : List ℕ) → step r (bs ++ ys) ≡ past k (bs ++ ys)) → Behind r bs
 unfolding step
 past-behind r k bs is pos on = by (ltb (length bs) k) refl
   where

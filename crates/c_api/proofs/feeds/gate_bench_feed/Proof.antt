@@ -7,7 +7,8 @@ use Rattle.c_api.proofs.feeds.gate_bench_feed.Tie as tie
 -- by `search`, so that a contract that asks less is proved too, and is missed by those that use it
 returns : tie.Need-returns
 returns c =
-    let fed = c .before .before .before .before .before .before in
+    let lent = c .before .before .before in
+    let fed = lent .before .before .before in
     let taken = fed .before .before .before .before .before in
     let takes = rw (taken .resume .ensures) at (fed .take-piece .ensures) in
     search (tells-fed takes (c .tell-told .ensures))
