@@ -570,7 +570,7 @@ def store_apart(crates, made):
     """The streams behind a good header, but for many; of deliveries the start: how many bytes, cuts and answers each has, and that nothing differs."""
     apart = os.path.join(crates, 'cut_streams')
     kept = {name: data for name, data in made.items() if name != 'many' and answer(data) != 'BAD HEADER\n'}
-    kept['deliveries'] = kept['deliveries'][:12296]
+    kept['deliveries'] = kept['deliveries'][:6152]
     for name, data in kept.items():
         put(os.path.join(apart, 'data'), name, data)
     put(apart, 'args', ''.join(name + '\n' for name in kept).encode())

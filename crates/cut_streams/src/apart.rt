@@ -9,7 +9,7 @@ use sessions::Session;
 const MOST_PLACES: usize = 2048;
 
 // More than any of the streams has.
-const MOST_ANSWERS: usize = 512;
+const MOST_ANSWERS: usize = 256;
 
 const MOST_BYTES: usize = 66210;
 

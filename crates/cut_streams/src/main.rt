@@ -11,8 +11,6 @@ use libc::STDOUT_FILENO;
 // The longest of the files, and a byte more: a longer one is not taken apart.
 const MOST: usize = 66210;
 
-const HEADER_BYTES: usize = 8;
-
 fn say(name: &[u8], words: &[u8]) {
     io::write_all(STDOUT_FILENO, name);
     io::write_all(STDOUT_FILENO, words);
@@ -39,10 +37,7 @@ fn run_input(name: &[u8], input: &[u8]) {
         say(name, b": BAD HEADER\n");
         return;
     };
-    if input.len() < HEADER_BYTES {
-        return;
-    }
-    report(name, Stored { n, number }, &input[HEADER_BYTES..]);
+    report(name, Stored { n, number }, frames::behind_header(input));
 }
 
 fn run_stored(name: &[u8]) {

@@ -71,6 +71,16 @@ pub fn read_header(bytes: &[u8]) -> Header
     Header::Good(qubits, session)
 }
 
+// What stands behind the header.
+pub fn behind_header(input: &[u8]) -> &[u8]
+    ensures { λ r. ⌜ now r ≡ drop 8 (now (input .entry)) ⌝ }
+{
+    if input.len() < HEADER_BYTES {
+        return &input[0..0];
+    }
+    &input[HEADER_BYTES..]
+}
+
 // A frame of this length, of which so many bytes are there, tag and length with them.
 fn sized(have: usize, len: u64) -> Next
     requires { ⌜ len < 65536 ⌝ }

@@ -1,5 +1,6 @@
 // The whole program over slices: from all bytes of the input to all bytes that are printed, in pieces as bench_run reads them.
 use frames::Header;
+use frames::behind_header;
 use frames::read_header;
 use once::next_size;
 use printing::put_bad_header;
@@ -14,7 +15,6 @@ use program::start;
 ghost use mathlib.Core.List.{[]};
 ghost use mathlib.Core.Path.{_≡_};
 ghost use Prim.Native.Nat.{_≤_};
-ghost use lib.ListN.{drop};
 ghost use Rattle.book.specs.Lent.{before, after};
 ghost use Rattle.book.specs.Sessions as Book;
 ghost use Rattle.feeding.specs.Feeding.{restIn};
@@ -59,16 +59,6 @@ fn put_lines(
 {
     let printed = put_pieces(from, frames, out, reals, imags);
     put_end(printed.next, reals, imags, out, printed.at)
-}
-
-// What stands behind the header.
-fn behind_header(input: &[u8]) -> &[u8]
-    ensures { λ r. ⌜ now r ≡ drop 8 (now (input .entry)) ⌝ }
-{
-    if input.len() < 8 {
-        return &input[0..0];
-    }
-    &input[8..]
 }
 
 // In the places of n qubits.
