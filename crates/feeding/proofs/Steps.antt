@@ -25,7 +25,7 @@ use Rattle.once.specs.Answered.{answersOf}
 use Rattle.sessions.specs.Deliveries.{meant}
 use Rattle.stores.specs.Stores.{store}
 use Rattle.feeding.specs.Feeding.{form, listOf, toldOf, Joins, Makes, Takes}
-use Rattle.feeding.specs.declared.Fed.{Fed}
+use Rattle.feeding.specs.declared.Stepped.{Stepped}
 
 clash : _≡_ {A = ℕ} 0 1 → ⊥
 clash e = omega arith
@@ -132,7 +132,7 @@ nothing-due s b held kept piece u k d h =
 -- ---- a frame is due
 
 -- its contents, delivered
-pub made : {s : Book.Session} {b b′ : Buffers} (held : List ℕ) (kept : ℕ) (piece : List ℕ) {contents : List ℕ} {used : ℕ} {r : Fed}
+pub made : {s : Book.Session} {b b′ : Buffers} (held : List ℕ) (kept : ℕ) (piece : List ℕ) {contents : List ℕ} {used : ℕ} {r : Stepped}
     → some contents ≡ step (restOf held kept) piece .due → used ≡ step (restOf held kept) piece .used → Makes s b contents used r b′
     → Takes (form s kept held) b piece (r .used) (toldOf (r .told) (r .session .count)) (form (meant (r .session)) (r .kept) held) b′
 made {s} {b} held kept piece d u m =

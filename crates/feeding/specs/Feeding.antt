@@ -15,7 +15,7 @@ use Rattle.once.specs.AllOnce.{bench, AllOnce}
 use Rattle.once.specs.Answered.{Answered, answersOf}
 use Rattle.sessions.specs.Deliveries.{meant}
 use Rattle.stores.specs.Stores.{store}
-use Rattle.feeding.specs.declared.Fed.{Fed}
+use Rattle.feeding.specs.declared.Stepped.{Stepped}
 use Rattle.feeding.specs.declared.Feed.{Feed}
 use Rattle.feeding.specs.declared.Told.{Told}
 use Rattle.feeding.specs.declared.Told.the-variants.{Nothing, Reply}
@@ -62,7 +62,7 @@ pub record Joins (first last : List ℕ) : Type 0 where
   pub most : length first + length last ≤ mostHeld
 
 -- One delivery, which used so many bytes of the piece: the next session, what is told, and every place. Nothing is kept behind it.
-pub record Makes (s : Book.Session) (b : Buffers) (contents : List ℕ) (n : ℕ) (r : Fed) (b′ : Buffers) : Type 0 where
+pub record Makes (s : Book.Session) (b : Buffers) (contents : List ℕ) (n : ℕ) (r : Stepped) (b′ : Buffers) : Type 0 where
   pub used : r .used ≡ n
   pub kept : r .kept ≡ 0
   pub run : bench (meant (r .session)) b′ ≡ deliverAll (bench s b) (contents ∷ [])

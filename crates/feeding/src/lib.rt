@@ -37,7 +37,7 @@ pub struct Taken {
 }
 
 // The same for a caller who keeps the 97 bytes.
-pub struct Fed {
+pub struct Stepped {
     pub session: Session,
     pub kept: u32,
     pub used: usize,
@@ -45,13 +45,13 @@ pub struct Fed {
 }
 
 // The delivery of a frame's contents, which used so many bytes of the piece. Behind a frame nothing is kept.
-fn make(session: Session, used: usize, contents: &[u8], reals: &mut [f64], imags: &mut [f64]) -> Fed
+fn make(session: Session, used: usize, contents: &[u8], reals: &mut [f64], imags: &mut [f64]) -> Stepped
     ensures { λ r. ⌜ Makes (meant session) (before reals imags) (now (contents .entry)) used r (after reals imags) ⌝ }
 {
     let delivered = session.deliver(contents, reals, imags);
     let next = delivered.next;
     let reply = delivered.reply;
-    Fed {
+    Stepped {
         session: next,
         kept: 0,
         used,
@@ -66,7 +66,7 @@ fn make_joined(
     last: &[u8],
     reals: &mut [f64],
     imags: &mut [f64],
-) -> Fed
+) -> Stepped
     requires { ⌜ Joins (now first) (now last) ⌝ }
     ensures { λ r. ⌜ Makes (meant session) (before reals imags) (drop 3 (now (first .entry) ++ now (last .entry))) (length (now (last .entry))) r
         (after reals imags) ⌝ }
@@ -86,7 +86,7 @@ pub fn take_piece(
     piece: &[u8],
     reals: &mut [f64],
     imags: &mut [f64],
-) -> Fed
+) -> Stepped
     ensures { λ r. ⌜ Takes (form (meant session) kept (now (held .entry))) (before reals imags) (now (piece .entry)) (r .used)
         (toldOf (r .told) (r .session .count)) (form (meant (r .session)) (r .kept) (now (held .exit))) (after reals imags) ⌝ }
 {
@@ -99,7 +99,7 @@ pub fn take_piece(
             if next < STOPPED {
                 add(held, kept as usize, piece);
             }
-            Fed {
+            Stepped {
                 session,
                 kept: next,
                 used,
