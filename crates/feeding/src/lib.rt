@@ -45,7 +45,13 @@ pub struct Stepped {
 }
 
 // The delivery of a frame's contents, which used so many bytes of the piece. Behind a frame nothing is kept.
-fn make(session: Session, used: usize, contents: &[u8], reals: &mut [f64], imags: &mut [f64]) -> Stepped
+fn make(
+    session: Session,
+    used: usize,
+    contents: &[u8],
+    reals: &mut [f64],
+    imags: &mut [f64],
+) -> Stepped
     ensures { λ r. ⌜ Makes (meant session) (before reals imags) (now (contents .entry)) used r (after reals imags) ⌝ }
 {
     let delivered = session.deliver(contents, reals, imags);
