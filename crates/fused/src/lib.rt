@@ -1,4 +1,5 @@
-// IEEE 754's fusedMultiplyAdd on f64. Three ordinary numbers are left to terms; of other operands the machine's own operations give F.
+// IEEE 754's fusedMultiplyAdd on f64. Of operands that are no ordinary numbers the machine's own operations give F; ordinary numbers that are neither large
+// nor small go the short way, and the others are left to terms.
 ghost use mathlib.Core.Path.{_≡_};
 ghost use lib.Ieee.{binary64};
 ghost use Rattle.numbers.specs.Fused as Def;
@@ -14,6 +15,10 @@ pub fn fused(x: f64, y: f64, z: f64) -> f64
         return operands::with_one_nan(x * y + z);
     }
     if operands::is_ordinary(z) {
+        if short::are_near(x, y, z) {
+            let h = exact::upper(y);
+            return short::with_upper(x, y, h, z);
+        }
         return terms::of_ordinary(x, y, z);
     }
     // A zero z must not be added: it would lose the sign of a product that rounds to zero.

@@ -1,4 +1,5 @@
--- `fused::fused` meets its contract: three ordinary numbers are left to `terms`, and the other operands need no rounding of their own. Assumes nothing.
+-- `fused::fused` meets its contract: ordinary numbers go the short way or are left to `terms`, and other operands need no rounding of their own.
+-- Assumes nothing.
 use mathlib.Core.Path.{_∙_}
 use mathlib.Core.Logic.{inl, inr}
 use borrow.Author.Needs.{needs}
@@ -23,9 +24,12 @@ returns-2 c =
     c .with-one-nan2 .ensures
     ∙ special-factor binary64 (a .x) (a .y) (a .z) (inr (not-yes (c .before .before .is-ordinary2 .ensures) (c .before .if2 .taken)))
 
-returns-3 : tie.Need-returns-3
-returns-3 c =
-    let third = c .before in
+with-upper-requires : tie.Need-with-upper-requires
+with-upper-requires c κs = let near = c .before .before .are-near .ensures (c .before .if4 .taken) in (near .0, c .upper .ensures, near .2)
+
+returns-4 : tie.Need-returns-4
+returns-4 c =
+    let third = c .before .before .before in
     let second = third .before .before in
     let first = second .before .before in
     let a = first .before .before .args in
@@ -34,25 +38,25 @@ returns-3 c =
     (not-no (first .before .is-ordinary .ensures) (first .if1 .left)) (not-no (second .before .is-ordinary2 .ensures) (second .if2 .left))
     (yes (third .before .is-ordinary3 .ensures) (third .if3 .taken))
 
-returns-4 : tie.Need-returns-4
-returns-4 c =
+returns-5 : tie.Need-returns-5
+returns-5 c =
     let third = c .before .before in
     let second = third .before .before in
     let first = second .before .before in
     let a = first .before .before .args in
     zero-term binary64 (a .x) (a .y) (a .z) (not-no (first .before .is-ordinary .ensures) (first .if1 .left))
-    (not-no (second .before .is-ordinary2 .ensures) (second .if2 .left)) (yes (c .before .is-finite .ensures) (c .if4 .taken))
+    (not-no (second .before .is-ordinary2 .ensures) (second .if2 .left)) (yes (c .before .is-finite .ensures) (c .if5 .taken))
     (no (third .before .is-ordinary3 .ensures) (third .if3 .left))
 
-returns-5 : tie.Need-returns-5
-returns-5 c =
+returns-6 : tie.Need-returns-6
+returns-6 c =
     let fourth = c .before in
     let second = fourth .before .before .before .before in
     let first = second .before .before in
     let a = first .before .before .args in
     c .with-one-nan3 .ensures
     ∙ special-term binary64 (a .x) (a .y) (a .z) (not-no (first .before .is-ordinary .ensures) (first .if1 .left))
-    (not-no (second .before .is-ordinary2 .ensures) (second .if2 .left)) (no (fourth .before .is-finite .ensures) (fourth .if4 .left))
+    (not-no (second .before .is-ordinary2 .ensures) (second .if2 .left)) (no (fourth .before .is-finite .ensures) (fourth .if5 .left))
 
 pub fused-spec : {M : Type 1} → statement M
 fused-spec =
@@ -66,8 +70,12 @@ fused-spec =
     returns-2
     (λ c κs. search needs)
     (λ c κs. search needs)
-    returns-3
+    (λ c κs. c .before .are-near .ensures (c .if4 .taken) .1)
+    with-upper-requires
+    (λ c. search needs)
     (λ c κs. search needs)
     returns-4
     (λ c κs. search needs)
-    returns-5)
+    returns-5
+    (λ c κs. search needs)
+    returns-6)

@@ -1,0 +1,2 @@
+-- The words of the contracts. Assumes nothing.
+pub mod Steps

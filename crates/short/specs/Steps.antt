@@ -1,0 +1,28 @@
+-- What the tests tell of a number, and what the small choices come to. Definitions only. Assumes nothing.
+use mathlib.Core.Path.{_≡_}
+use Prim.Native.Nat.{ℕ, _+_, _%_, _<_}
+use mathlib.Core.Bool.{cond, Bool·beq}
+use lib.Ieee.{Float, Format, lt, ne, ofBits}
+use Rattle.exact.specs.Window.{reach}
+use Rattle.exact.specs.Steps.{Near, Under}
+
+-- a number in the window that is 2 at most in size
+pub record Modest (f : Format) (x : Float) : Type 0 where
+  pub near : Near f x
+  pub under : Under f 1 x
+
+-- x lies r blocks above the window's start: two blocks are the window, the first of them ends at 2, and the last three are below it
+pub record Block (f : Format) (x : Float) (r : ℕ) : Type 0 where
+  pub few : r < 8
+  pub near : r < 2 → Near f x
+  pub term : (r + 3) % 8 < 5 → Under f (reach f) x
+  pub unit : (r + 3) % 8 < 4 → Under f 1 x
+  pub modest : r ≡ 0 → Modest f x
+
+-- whether d, which v lacks, points against v: 1 where their signs differ
+abbrev pub against : Format → Float → Float → ℕ
+against f d v = cond (Bool·beq (lt d (ofBits f 0)) (lt v (ofBits f 0))) 0 1
+
+-- v where d is a zero, and else another
+abbrev pub chosen : Format → Float → Float → Float → Float
+chosen f d v w = cond (ne d (ofBits f 0)) w v
