@@ -1,5 +1,6 @@
 // The gates by number, and what each is fed: how many controls it takes, its own tests, and its rule where that needs F or leaves s0 as it is.
 // A number and its angle are passed as they are, and not as an enum: where a call names the number, the compiler keeps what that gate needs.
+// An inner room: the functions that put a rule ask for the multipliers' upper parts, and their callers are proved.
 use book::ANY;
 use book::Amplitude;
 use book::Angle;
@@ -7,13 +8,17 @@ use book::Angles;
 use book::Answer;
 use book::Matrix;
 use book::Pair;
+use fused_rules::Uppers;
 use fused_rules::p_upper;
+use fused_rules::p_uppers;
 use fused_rules::rz_rule;
 use fused_rules::u_rule;
 use rules::z_upper;
 ghost use mathlib.Core.Path.{_≡_};
 ghost use Rattle.book.specs.Gates.{angleOf, finiteTests};
+ghost use Rattle.book.specs.State.{pair};
 ghost use Rattle.seated.specs.Judging.{Judges};
+ghost use Rattle.fused_rules.specs.Splits.{RzSplit, USplit, PSplit};
 ghost use Rattle.fed.specs.Named.{mostOf, ownOf, fusedOf, upperMost, upperOwn, upperOf};
 
 // The gates that change both places of a pair: those that need no F first.
@@ -115,22 +120,38 @@ pub struct Fed {
     pub angles: Angles,
 }
 
-// The rule put to a pair; U's matrix was made before.
-pub fn put(number: u32, angle: Angle, matrix: Matrix, p: Pair) -> Pair
+// The rule put to a pair; U's matrix was made before, and the upper parts h.
+pub fn put(number: u32, angle: Angle, matrix: Matrix, h: Uppers, p: Pair) -> Pair
+    requires { ⌜ RzSplit angle h × USplit matrix h ⌝ }
     ensures { λ r. ⌜ r ≡ fusedOf number angle matrix p ⌝ }
 {
     if number == RZ {
-        return rz_rule(angle, p);
+        return rz_rule(angle, h, p);
     }
-    u_rule(matrix, p)
+    u_rule(matrix, h, p)
 }
 
-// What the gate makes of s1, by number: a call with a literal leaves one rule to compile.
-pub fn put_upper(number: u32, angle: Angle, cd: Amplitude) -> Amplitude
+// What the gate makes of s1, by number: a call with a literal leaves one rule to compile. half is what P's angle was split to.
+pub fn put_upper(number: u32, angle: Angle, half: f64, cd: Amplitude) -> Amplitude
+    requires { ⌜ PSplit angle half ⌝ }
     ensures { λ r. ⌜ r ≡ upperOf number angle cd ⌝ }
 {
     match number {
         0 => z_upper(cd),
-        _ => p_upper(angle, cd),
+        _ => p_upper(angle, half, cd),
+    }
+}
+
+// ... at two places.
+pub fn put_uppers(number: u32, angle: Angle, half: f64, ab: Amplitude, cd: Amplitude) -> Pair
+    requires { ⌜ PSplit angle half ⌝ }
+    ensures { λ r. ⌜ r ≡ pair (upperOf number angle ab) (upperOf number angle cd) ⌝ }
+{
+    match number {
+        0 => Pair {
+            s0: z_upper(ab),
+            s1: z_upper(cd),
+        },
+        _ => p_uppers(angle, half, ab, cd),
     }
 }

@@ -4,12 +4,15 @@ use book::Angle;
 use book::Matrix;
 use fed::Fed;
 use fed::put;
+use fused_rules::Uppers;
+use fused_rules::split;
 use pairs::read_pair;
 use pairs::write_pair;
 use rules::u_matrix;
 ghost use Rattle.book.specs.Lent.{before, after, here, SameSize};
 ghost use Rattle.book.specs.State.{at};
 ghost use Rattle.fed.specs.Named.{fusedOf, putOf};
+ghost use Rattle.fused_rules.specs.Splits.{RzSplit, USplit};
 ghost use Rattle.pairs.specs.Pairs.{TwoPlaces, PairPut, Keyed, Swept};
 
 fn step(
@@ -20,17 +23,19 @@ fn step(
     number: u32,
     angle: Angle,
     matrix: Matrix,
+    h: Uppers,
 )
-    requires { ⌜ TwoPlaces (here reals imags) s0 s1 ⌝ }
+    requires { ⌜ TwoPlaces (here reals imags) s0 s1 × RzSplit angle h × USplit matrix h ⌝ }
     ensures { λ _. ⌜ PairPut (fusedOf number angle matrix) s0 s1 (at (before reals imags)) (at (after reals imags))
         × SameSize (before reals imags) (after reals imags) ⌝ }
 {
     let p = read_pair(reals, imags, s0, s1);
-    let q = put(number, angle, matrix, p);
+    let q = put(number, angle, matrix, h, p);
     write_pair(reals, imags, s0, s1, q);
 }
 
-// U's matrix is made once. w goes over the numbers that have all bits of fixed, rising; each is the key of a pair, at w - back0 and w - back1.
+// U's matrix and the upper parts h are made once. w goes over the numbers that have all bits of fixed, rising; each is the key of a pair, at w - back0 and
+// w - back1.
 pub fn by_keys(
     reals: &mut [f64],
     imags: &mut [f64],
@@ -46,10 +51,11 @@ pub fn by_keys(
     let number = fed.number;
     let angle = fed.angle;
     let matrix = u_matrix(fed.angles);
+    let h = split(angle, matrix);
     let size: usize = 1 << n;
     let mut w = fixed;
     while w < size {
-        step(reals, imags, w - back0, w - back1, number, angle, matrix);
+        step(reals, imags, w - back0, w - back1, number, angle, matrix, h);
         w = (w + 1) | fixed;
     }
 }

@@ -6,4 +6,5 @@ use Rattle.fused_rules.proofs.turned.Statement.{statement}
 use Rattle.fused_rules.proofs.turned.Tie as tie
 
 pub turned-spec : {M : Type 1} → statement M
-turned-spec = tie.close (tie.spec (λ c κs. search needs) (λ c κs. search needs) (λ c. ap₂ amplitude (c .before .before .fused .ensures) (c .fused2 .ensures)))
+turned-spec = tie.close
+    (tie.spec (λ c κs. search needs) (λ c κs. search needs) (λ c. ap₂ amplitude (c .before .before .fused .ensures) (c .fused2 .ensures)))

@@ -11,21 +11,21 @@ use Rattle.keys.proofs.by_keys.Statement.{statement}
 use Rattle.keys.proofs.by_keys.Tie as tie
 
 abbrev Inv-loop : tie.InvT-loop
-Inv-loop reals₀ imags₀ n fixed back0 back1 number angle matrix size w₀ reals imags w =
+Inv-loop reals₀ imags₀ n fixed back0 back1 number angle matrix h size w₀ reals imags w =
     Upto (fusedOf number angle matrix) n fixed back0 back1 (buffers reals₀ imags₀) w (buffers reals imags)
 
 abbrev μ-loop : tie.MeasureT-loop
-μ-loop reals₀ imags₀ n fixed back0 back1 number angle matrix size w₀ reals imags w = size - w
+μ-loop reals₀ imags₀ n fixed back0 back1 number angle matrix h size w₀ reals imags w = size - w
 
 -- a turn: the key is below 2 ^ n, which is small
 abbrev start : tie.In-loop Inv-loop μ-loop → tie.Start Inv-loop μ-loop
-start c = c .before .before .before .before .before .before
+start c = c .before .before .before .before .before .before .before
 
 key-lt : (c : tie.In-loop Inv-loop μ-loop) → c .before .loop .w < 2 ^ (start c .args .n)
 key-lt c = omega (arith, c .loop-test .taken, size-is (start c .pre))
 
 shl-size : tie.Need-shl-size Inv-loop μ-loop
-shl-size c = omega (arith, c .before .before .before .before .pre .fits)
+shl-size c = omega (arith, c .before .before .before .before .before .pre .fits)
 
 sub-step : tie.Need-sub-step Inv-loop μ-loop
 sub-step c = reach (start (c .before .before) .pre) (c .before .before .before .loop .inv)
@@ -34,7 +34,10 @@ sub-step-2 : tie.Need-sub-step-2 Inv-loop μ-loop
 sub-step-2 c = omega (arith, start (c .before .before) .pre .order, reach (start (c .before .before) .pre) (c .before .before .before .loop .inv))
 
 step-requires : tie.Need-step-requires Inv-loop μ-loop
-step-requires c κs = asked (start (c .before .before) .pre) (c .before .before .before .loop .inv) (key-lt (c .before .before))
+step-requires c κs =
+    let turn = c .before .before in
+    let uppers = turn .before .before .split .ensures in
+    (asked (start turn .pre) (turn .before .loop .inv) (key-lt turn), uppers .0, uppers .1)
 
 add-w : tie.Need-add-w Inv-loop μ-loop
 add-w c = let turn = c .before .before .before .before .before .before .before in omega (arith, key-lt turn, small (start turn .pre))
@@ -51,7 +54,7 @@ loop-again c =
 
 returns : tie.Need-returns Inv-loop μ-loop
 returns c =
-    let made = c .before .before in
+    let made = c .before .before .before in
     let s = made .before .before .before .before in
     let ok = s .pre in
     rw (made-once (s .args .fed) (made .u-matrix .ensures)) (ends ok (c .before .loop .inv) (omega (arith, c .loop-test .left, size-is ok)))
@@ -63,8 +66,9 @@ by-keys-spec =
     Inv-loop
     μ-loop
     (λ c κs. search needs)
+    (λ c κs. search needs)
     shl-size
-    (λ c. starts (c .before .before .before .before .pre))
+    (λ c. starts (c .before .before .before .before .before .pre))
     sub-step
     sub-step-2
     step-requires

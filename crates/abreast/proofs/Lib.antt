@@ -1,0 +1,3 @@
+-- The laws under F of two.
+pub mod Terms
+pub mod Swapped

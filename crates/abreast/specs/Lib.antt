@@ -1,0 +1,2 @@
+-- What an upper part says of its multiplier.
+pub mod Split
