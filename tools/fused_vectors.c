@@ -12,7 +12,7 @@
 #include <stdlib.h>
 #include <string.h>
 
-#ifndef __FMA__
+#if !defined __FMA__ && !defined __aarch64__
 #error "build with -mfma, so that the answers are the machine's own"
 #endif
 
@@ -31,6 +31,19 @@ static uint64_t bits(double x) { uint64_t b; memcpy(&b, &x, 8); return x != x ? 
 static double (*volatile library_fma)(double, double, double) = fma;
 static double (*volatile library_sqrt)(double) = sqrt;
 
+#ifdef __aarch64__
+static double machine_fma(double x, double y, double z) {
+    double r;
+    __asm__("fmadd %d0, %d1, %d2, %d3" : "=w"(r) : "w"(x), "w"(y), "w"(z));
+    return r;
+}
+
+static double machine_sqrt(double x) {
+    double r;
+    __asm__("fsqrt %d0, %d1" : "=w"(r) : "w"(x));
+    return r;
+}
+#else
 static double machine_fma(double x, double y, double z) {
     __asm__("vfmadd213sd %2, %1, %0" : "+x"(x) : "x"(y), "x"(z));
     return x;
@@ -41,6 +54,7 @@ static double machine_sqrt(double x) {
     __asm__("sqrtsd %1, %0" : "=x"(r) : "x"(x));
     return r;
 }
+#endif
 
 static long fused_cases, root_cases;
 
@@ -85,8 +99,125 @@ static const uint64_t special[] = {
 };
 enum { SPECIALS = sizeof special / sizeof *special };
 
+/* ---- the seam between F's two ways: the short one takes factors whose exponent's field is from 768 to 1279, and addends whose field is below 1280.
+ * One call of next() to a statement from here on, so that every compiler makes the same list. */
+
+static uint64_t digits(void) { /* a significand's lower 52 digits: any, or few, or long runs */
+    uint64_t kind = next(), d = next(), n = next() % 52;
+    switch (kind % 6) {
+    case 0: return (d % 16) << 48;
+    case 1: return 0xfffffffffffffu ^ d % 8;
+    case 2: return d % 8;
+    case 3: return 1ull << n;
+    default: return d & 0xfffffffffffffu;
+    }
+}
+
+static double number(int field) {
+    uint64_t sign = next() & 0x8000000000000000u, d = digits();
+    return of(sign | (uint64_t)field << 52 | d);
+}
+
+static int any(int lo, int hi) { return lo + (int)(next() % (uint64_t)(hi - lo + 1)); }
+
+static int field(double x) { return (int)(bits(x) >> 52 & 2047); }
+
+static double scaled(double x, int by) { return of(bits(x) + ((uint64_t)(int64_t)by << 52)); } /* no number here is near the largest or the smallest */
+
+static int beside_edge(void) { /* the window's first and last fields, and those beside them */
+    static const int fields[] = {766, 767, 768, 769, 1278, 1279, 1280, 1281};
+    return fields[any(0, 7)];
+}
+
+static void edges(int count) { /* each operand at an edge, the others at edges too or in the window; the addend near the product, or at the edge, or small */
+    for (int i = 0; i < count; i++) {
+        int fx = i % 3 == 1 ? any(768, 1279) : beside_edge();
+        int fy = i % 3 == 0 ? any(768, 1279) : beside_edge();
+        double x = number(fx), y = number(fy);
+        int near = fx + fy - 1023 + any(-60, 60), fz = 0;
+        switch (any(0, 4)) {
+        case 0: fz = any(1277, 1282); break;
+        case 1: fz = any(0, 2); break;
+        case 2: fz = any(0, 2046); break;
+        default: fz = near < 0 ? 0 : near > 2046 ? 2046 : near;
+        }
+        fused(x, y, number(fz));
+    }
+}
+
+static void ties(int count) { /* xy is half a unit in the last place of z, odd numbers of it, or a little beside */
+    for (int i = 0; i < count; i++) {
+        double z = number(any(900, 1150));
+        int a = any(-40, 40), odd = 2 * any(0, 3) + 1, beside = any(-1, 1);
+        double x = ldexp(odd, a), y = ldexp(1, field(z) - 1023 - 53 - a);
+        uint64_t sign = next() & 0x8000000000000000u;
+        fused(of((bits(x) + (uint64_t)(int64_t)(i % 3 ? 0 : beside)) ^ sign), y, z);
+    }
+}
+
+static void cancelling(int count) { /* z takes nearly all of xy away, or all */
+    for (int i = 0; i < count; i++) {
+        double x = number(any(900, 1150)), y = number(any(900, 1150));
+        int few = any(0, 5), by = any(-3, 3);
+        if (i % 4 == 0) x = of(bits(x) & ~0x7ffffffull), y = of(bits(y) & ~0x7ffffffull); /* then xy has 52 digits at most: exactly */
+        if (few == 0) by *= 1 << any(1, 20);
+        fused(x, y, -of(bits(x * y) + (uint64_t)(int64_t)by));
+    }
+}
+
+static void distances(int each) { /* the product's exponent less the addend's: from -110 to 110 */
+    for (int d = -110; d <= 110; d++)
+        for (int i = 0; i < each; i++) {
+            double x = number(any(900, 1150)), y = number(any(900, 1150));
+            fused(x, y, number(field(x * y) - d));
+        }
+}
+
+static void to_powers(int count) { /* the answer is a power of two, or just below it, by rounding up or by the last digits of an exact sum */
+    for (int i = 0; i < count; i++) {
+        uint64_t sign = next() & 0x8000000000000000u, last = i % 2 ? 0 : next() % 3;
+        double z = of(sign | (uint64_t)any(900, 1150) << 52 | (0xfffffffffffffu - last));
+        double x = number(any(950, 1100)), y = number(any(1000, 1040));
+        int more = i % 2 ? 0 : any(-3, 2); /* xy is from half of z's last unit to all of it, or less, or some units */
+        x = scaled(x, field(z) - field(x * y) - 53 + more);
+        fused(bits(x * y) >> 63 == sign >> 63 || i % 5 == 0 ? x : -x, y, z);
+    }
+}
+
+/* what xy+z, rounded at the product and at the sum, lacks: v is that rounded, and d what v lacks */
+static double lacks(double x, double y, double z, double *d) {
+    double p = x * y, e = machine_fma(x, y, -p), s = p + z;
+    double a = s - p, t = (p - (s - a)) + (z - a), v = t + e, b = v - t;
+    *d = (t - (v - b)) + (e - b);
+    return v;
+}
+
+static void powers_lacking(int count) { /* v is a power of two and not exact: its neighbour below has another exponent */
+    while (count > 0) {
+        double x = number(any(1000, 1023)), y = number(any(1000, 1023)), d;
+        double z = number(field(x * y) + any(-4, 50));
+        double v = lacks(x, y, z, &d);
+        if (d == 0 || (bits(v) & 0xfffffffffffffu) != 0) continue;
+        fused(x, y, z);
+        count--;
+    }
+}
+
+static int seam(void) {
+    edges(3000);
+    ties(3000);
+    cancelling(4000);
+    distances(27);
+    to_powers(2000);
+    powers_lacking(2000);
+    while (fused_cases < 20000) { double x = number(any(1000, 1023)), y = number(any(1000, 1023)); fused(x, y, number(any(1000, 1023))); }
+    fprintf(stderr, "%ld of F\n", fused_cases);
+    return 0;
+}
+
 int main(int argc, char **argv) {
     state = argc > 1 ? strtoull(argv[1], 0, 0) : 1;
+    if (argc > 2 && strcmp(argv[2], "seam") == 0) return seam();
 
     for (int i = 0; i < SPECIALS; i++) /* every triple of special numbers: 3,375 */
         for (int j = 0; j < SPECIALS; j++)
