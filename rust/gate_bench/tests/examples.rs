@@ -271,6 +271,63 @@ fn one_nan() {
     }
 }
 
+/// F, and 01's rules with it.
+fn turned(m: [f64; 2], z: [f64; 2]) -> [f64; 2] {
+    [fused(z[0], m[0], -z[1] * m[1]), fused(z[0], m[1], z[1] * m[0])]
+}
+
+type Pair = [[f64; 2]; 2];
+
+fn p_rule(k: Angle, [ab, cd]: Pair) -> Pair {
+    [ab, [fused(cd[0], k.cosine, -cd[1] * k.sine), fused(cd[1], k.cosine, cd[0] * k.sine)]]
+}
+
+fn rz_rule(k: Angle, [ab, cd]: Pair) -> Pair {
+    [turned([k.cosine, -k.sine], ab), turned([k.cosine, k.sine], cd)]
+}
+
+fn u_rule(g: Angles, [[a, b], [c, d]]: Pair) -> Pair {
+    let (p, q, r, u, v, e, f) = (g.ct, -g.cl * g.st, -g.sl * g.st, g.cp * g.st, g.sp * g.st, g.cpl * g.ct, g.spl * g.ct);
+    let s0 = [fused(p, a, fused(q, c, -r * d)), fused(p, b, fused(q, d, r * c))];
+    [s0, [fused(u, a, fused(-v, b, fused(e, c, -f * d))), fused(u, b, fused(v, a, fused(e, d, f * c)))]]
+}
+
+/// P, RZ and U work two places or pairs out side by side where every number is near 1: one number that is not changes nothing beside it.
+#[test]
+fn side_by_side() {
+    let odd = [0.0, -0.0, f64::NAN, f64::INFINITY, -f64::INFINITY, 2f64.powi(-300), -2f64.powi(300), f64::from_bits(1), f64::MAX, 2.0, -2f64.powi(-255)];
+    let angle = |k: f64| Angle { cosine: k.cos(), sine: k.sin() };
+    let angles = |ct: f64, st: f64| Angles { ct, st, cl: 0.8, sl: 0.6, cpl: 0.96, spl: -0.28, cp: -0.6, sp: 0.8 };
+    let fixed = [(angle(0.7), angles(0.96, 0.28)), (angle(0.0), angles(1.0, 0.0)), (Angle { cosine: 1e300, sine: 3.0 }, angles(-3.0, 1e-300))];
+    for (target, ones, at) in (0..3).flat_map(|t| [0, 1, 2, 4].map(move |ones| (t, ones))).flat_map(|(t, ones)| (0..16).map(move |at| (t, ones, at))) {
+        if ones >> target & 1 == 1 {
+            continue;
+        }
+        for (x, (k, g)) in odd.iter().flat_map(|x| fixed.iter().map(move |f| (x, *f))) {
+            let mut parts: Vec<f64> = (0..16).map(|i| f64::from(i * 7 % 16 - 8) / 16.3 + 0.01).collect();
+            parts[at] = *x;
+            let (reals, imags) = parts.split_at(8);
+            let wanted = |rule: &dyn Fn(Pair) -> Pair| {
+                let (mut re, mut im) = (reals.to_vec(), imags.to_vec());
+                for s0 in (0..8usize).filter(|i| i >> target & 1 == 0 && *i as u32 & ones == ones) {
+                    let s1 = s0 + (1 << target);
+                    let left = rule([[re[s0], im[s0]], [re[s1], im[s1]]]);
+                    (re[s0], im[s0], re[s1], im[s1]) = (left[0][0], left[0][1], left[1][0], left[1][1]);
+                }
+                bits(&[re, im].concat())
+            };
+            let got = |gate: &dyn Fn(&mut [f64], &mut [f64]) -> Answer| {
+                let (mut re, mut im) = (reals.to_vec(), imags.to_vec());
+                assert_eq!(gate(&mut re, &mut im), Answer::Taken);
+                bits(&[re, im].concat())
+            };
+            assert_eq!(got(&|re, im| p_apply(re, im, 3, target, ones, k)), wanted(&|p| p_rule(k, p)), "P at {target}, {ones:b}, {x} at {at}");
+            assert_eq!(got(&|re, im| rz_apply(re, im, 3, target, ones, k)), wanted(&|p| rz_rule(k, p)), "RZ at {target}, {ones:b}, {x} at {at}");
+            assert_eq!(got(&|re, im| u_apply(re, im, 3, target, ones, g)), wanted(&|p| u_rule(g, p)), "U at {target}, {ones:b}, {x} at {at}");
+        }
+    }
+}
+
 /// 20, a length of two bytes, and the record.
 fn frame(contents: &[u8]) -> Vec<u8> {
     [&[0x20][..], &(contents.len() as u16).to_be_bytes(), contents].concat()
