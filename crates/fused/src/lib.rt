@@ -16,8 +16,10 @@ pub fn fused(x: f64, y: f64, z: f64) -> f64
     }
     if operands::is_ordinary(z) {
         if short::are_near(x, y, z) {
-            let h = exact::upper(y);
-            return short::with_upper(x, y, h, z);
+            let r = short::from_both_sides(x, y, exact::upper(y), z);
+            if r.left == r.right {
+                return r.left;
+            }
         }
         return terms::of_ordinary(x, y, z);
     }

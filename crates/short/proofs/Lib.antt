@@ -4,16 +4,3 @@
 pub mod Tests
 -- numbers that are not large: a power of two that no step passes
 pub mod Unders
--- a float beside zero
-pub mod Zeros
--- what a nearest count tells of the one that it is near to
-pub mod Closest
--- where what a sum lacks is not held, the sum is much larger
-pub mod Far
--- two sums of one signed count
-pub mod OneSum
--- the odd neighbour of what was rounded, and its bits
-pub mod Odd
-pub mod Rest
--- the answer
-pub mod Answer

@@ -1,10 +1,11 @@
--- What the tests tell of a number, and what the small choices come to. Definitions only. Assumes nothing.
+-- What the tests tell of a number, and of two. Definitions only. Assumes nothing.
 use mathlib.Core.Path.{_≡_}
 use Prim.Native.Nat.{ℕ, _+_, _%_, _<_}
-use mathlib.Core.Bool.{cond, Bool·beq}
-use lib.Ieee.{Float, Format, lt, ne, ofBits}
+use mathlib.Core.Bool.{true}
+use lib.Ieee.{Float, Format, eq}
 use Rattle.exact.specs.Window.{reach}
 use Rattle.exact.specs.Steps.{Near, Under}
+use Rattle.short.specs.declared.Sides.{Sides}
 
 -- a number in the window that is 2 at most in size
 pub record Modest (f : Format) (x : Float) : Type 0 where
@@ -19,10 +20,6 @@ pub record Block (f : Format) (x : Float) (r : ℕ) : Type 0 where
   pub unit : (r + 3) % 8 < 4 → Under f 1 x
   pub modest : r ≡ 0 → Modest f x
 
--- whether d, which v lacks, points against v: 1 where their signs differ
-abbrev pub against : Format → Float → Float → ℕ
-against f d v = cond (Bool·beq (lt d (ofBits f 0)) (lt v (ofBits f 0))) 0 1
-
--- v where d is a zero, and else another
-abbrev pub chosen : Format → Float → Float → Float → Float
-chosen f d v w = cond (ne d (ofBits f 0)) w v
+-- both sides are one number
+abbrev pub Meet : Sides → Type 0
+Meet r = eq (r .left) (r .right) ≡ true

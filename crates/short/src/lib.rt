@@ -1,7 +1,8 @@
 // IEEE 754's fusedMultiplyAdd on f64 where the numbers are neither large nor small: in the machine's own sums and products.
 //
-// The product's error e (Dekker) and the error t of its sum s with z (Knuth) are floats. Their sum, rounded to odd, stands for them in the last sum with s
-// (Boldo and Melquiond).
+// The product's error e (Dekker) and the error t of its sum s with z (Knuth) are floats. What s lacks is t + e, and v is that rounded: off by less than a
+// hair of s. So F lies between s + (v - hair) and s + (v + hair), each rounded once. Where these two are one number, that is F (Ziv); where they are not,
+// F lies beside the middle of two numbers, and the long way decides.
 // An inner room: its callers test their numbers first, several at a time, and split a multiplier once for many products.
 ghost use mathlib.Core.Path.{_≡_};
 ghost use mathlib.Core.Bool.{true, not};
@@ -9,8 +10,8 @@ ghost use lib.Dec.{T};
 ghost use lib.Ieee.{binary64, isNan};
 ghost use Rattle.numbers.specs.Fused as Def;
 ghost use Rattle.exact.specs.Window.{reach};
-ghost use Rattle.exact.specs.Steps.{Near, Under, Halved, Multiplied};
-ghost use Rattle.short.specs.Steps.{Modest, Block, against, chosen};
+ghost use Rattle.exact.specs.Steps.{Near, Under, Halved};
+ghost use Rattle.short.specs.Steps.{Modest, Block, Meet};
 
 // 256 exponents, in the bits. Without the sign, the bits of a number from 2^-255 to 2 are 3 blocks and some; of one from 2 to 2^257, 4 and some.
 const BLOCK: u64 = 0x1000_0000_0000_0000;
@@ -62,40 +63,41 @@ pub fn all_modest(a: f64, b: f64, c: f64, d: f64) -> bool
     apart(a) + apart(b) + apart(c) + apart(d) == 0
 }
 
-// 1 where d and v have unlike signs.
-fn unlike(d: f64, v: f64) -> u64
-    ensures { λ r. ⌜ r ≡ against binary64 d v ⌝ }
-{
-    if (d < 0.0) == (v < 0.0) { 0 } else { 1 }
+// 2^-98: what v may be off by, and what the sums with a hair may lose, are together less than this part of s.
+const HAIR: f64 = 3.1554436208840472e-30;
+
+// Two numbers with F between them, or F twice.
+pub struct Sides {
+    pub left: f64,
+    pub right: f64,
 }
 
-// v where it is exact, and its odd neighbour where d is lost.
-fn choose(d: f64, v: f64, odd: f64) -> f64
-    ensures { λ r. ⌜ r ≡ chosen binary64 d v odd ⌝ }
-{
-    if d != 0.0 { odd } else { v }
-}
-
-// e is the product's error, s the sum rounded twice, t + e what it lacks, and v that rounded. Where v is exact, s + v is rounded once. Where it is not, s is
-// much larger, and v is rounded to odd: the lower of its two neighbours in size, or v itself, made odd.
-fn rounded_once(x: f64, y: f64, z: f64, e: f64) -> f64
-    requires { ⌜ Multiplied binary64 x y e × Under binary64 (reach binary64) z ⌝ }
-    ensures { λ r. ⌜ r ≡ Def.fused binary64 x y z ⌝ }
-{
-    let p = x * y;
-    let s = p + z;
-    let t = exact::sum_error(p, z, s);
-    let v = t + e;
-    let d = exact::sum_error(t, e, v);
-    let odd = f64::from_bits((f64::to_bits(v) - unlike(d, v)) / 2 * 2 + 1);
-    s + choose(d, v, odd)
-}
-
-// F(x,y,z), h being y's upper part.
-pub fn with_upper(x: f64, y: f64, h: f64, z: f64) -> f64
-    requires { ⌜ Near binary64 x × Halved binary64 y h × Under binary64 (reach binary64) z ⌝ }
-    ensures { λ r. ⌜ r ≡ Def.fused binary64 x y z ⌝ }
+// F(x,y,z) from both sides, h being y's upper part. Whatever z is there are two numbers; they tell of F where z is not large.
+pub fn from_both_sides(x: f64, y: f64, h: f64, z: f64) -> Sides
+    requires { ⌜ Near binary64 x × Halved binary64 y h ⌝ }
+    ensures { λ r. ⌜ (Meet r → Under binary64 (reach binary64) z → r .left ≡ Def.fused binary64 x y z) ⌝ }
 {
     let e = exact::product_error(x, y, h);
-    rounded_once(x, y, z, e)
+    let p = x * y;
+    let s = p + z;
+    let v = exact::sum_error(p, z, s) + e;
+    let hair = s * HAIR;
+    Sides {
+        left: s + (v - hair),
+        right: s + (v + hair),
+    }
+}
+
+// Whether all four meet.
+pub fn all_meet(a: Sides, b: Sides, c: Sides, d: Sides) -> bool
+    ensures { λ r. ⌜ (r ≡ true → Meet a × Meet b × Meet c × Meet d) ⌝ }
+{
+    if a.left == a.right {
+        if b.left == b.right {
+            if c.left == c.right {
+                return d.left == d.right;
+            }
+        }
+    }
+    false
 }
