@@ -41,18 +41,18 @@ pub fn are_near(x: f64, y: f64, z: f64) -> bool
     (apart(z) + 3) % 8 < 5
 }
 
-// Whether the factors x and y are from 2^-255 to 2 in size, and the terms z and w 2 at most: in one sum, so that the compiler can test two at once.
-pub fn are_fit(x: f64, y: f64, z: f64, w: f64) -> bool
-    ensures { λ r. ⌜ (r ≡ true → Near binary64 x × Near binary64 y × Under binary64 1 z × Under binary64 1 w) ⌝ }
+// Whether k is from 2^-255 to 2 in size, and s 2 at most.
+pub fn are_fit(k: f64, s: f64) -> bool
+    ensures { λ r. ⌜ (r ≡ true → Near binary64 k × Under binary64 1 s) ⌝ }
 {
-    let s = (x + z) + (y + w);
-    if s != s {
+    let w = k + s;
+    if w != w {
         return false;
     }
-    apart(x) + apart(y) + (apart(z) + 3) % 8 / 4 + (apart(w) + 3) % 8 / 4 == 0
+    apart(k) + (apart(s) + 3) % 8 / 4 == 0
 }
 
-// Whether all four are from 2^-255 to 2 in size.
+// Whether all four are from 2^-255 to 2 in size: in one sum, so that the compiler can test two at once.
 pub fn all_modest(a: f64, b: f64, c: f64, d: f64) -> bool
     ensures { λ r. ⌜ (r ≡ true → Modest binary64 a × Modest binary64 b × Modest binary64 c × Modest binary64 d) ⌝ }
 {

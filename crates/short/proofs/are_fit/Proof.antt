@@ -13,18 +13,8 @@ pub are-fit-spec : {M : Type 1} → statement M
 are-fit-spec =
     tie.close
     (tie.spec (λ c h. absurd (true≢false (sym h)))
-    (λ c κs. sum-numbers binary64 _ _ (sum-numbers binary64 _ _ (number _ (c .if1 .left)) .0) .0)
-    (λ c κs. sum-numbers binary64 _ _ (sum-numbers binary64 _ _ (number _ (c .before .if1 .left)) .1) .0)
-    (λ c. search needs)
-    (λ c κs. sum-numbers binary64 _ _ (sum-numbers binary64 _ _ (number _ (c .before .before .if1 .left)) .0) .1)
+    (λ c κs. sum-numbers binary64 _ _ (number _ (c .if1 .left)) .0)
+    (λ c κs. sum-numbers binary64 _ _ (number _ (c .before .if1 .left)) .1)
     (λ c. search needs)
     (λ c. search needs)
-    (λ c κs. sum-numbers binary64 _ _ (sum-numbers binary64 _ _ (number _ (c .before .before .before .if1 .left)) .1) .1)
-    (λ c. search needs)
-    (λ c. search needs)
-    (λ c h. (
-      c .before .before .before .apart .ensures .modest (omega (arith, eqb-true)) .near,
-      c .before .before .apart2 .ensures .modest (omega (arith, eqb-true)) .near,
-      c .before .apart3 .ensures .unit (omega (arith, eqb-true)),
-      c .apart4 .ensures .unit (omega (arith, eqb-true)),
-    )))
+    (λ c h. (c .before .apart .ensures .modest (omega (arith, eqb-true)) .near, c .apart2 .ensures .unit (omega (arith, eqb-true)))))
