@@ -32,6 +32,7 @@ record Room (f : Format) (i j k : ℕ) : Type 0 where
   unit : i + j ≡ k + low f
   wide : prec f + (prec f + k) + 2 < low f + suc (emax f)
   most : prec f + (prec f + k) ≤ widest f
+  least : prec f + 2 ≤ k
   first-factor : prec f + i < low f + suc (emax f)
   second-factor : prec f + j < low f + suc (emax f)
 
@@ -218,7 +219,8 @@ module _ {f : Format} {x y x' y' : Float} (X : Halved f x x') (Y : Halved f y y'
         has-y = Y .near .has;
         n = m * n * 2 ^ k;
         product = units m n;
-        some = mul-pos (mul-pos (lt-of-lt-of-le (pow-pos e) (X .near .full)) (lt-of-lt-of-le (pow-pos e) (Y .near .full))) (pow-pos k);
+        least = le-trans (pow-mono {j = e + e + k} (omega (arith, open-window .least)))
+            (rw (pow-add 2 (e + e) k, pow-add 2 e e) (mul-le-mul-right (2 ^ k) (mul-le-mul (X .near .full) (Y .near .full))));
         most = lt-of-lt-of-le (under (prec f) m n k (X .near .few) (Y .near .few)) (pow-mono (open-window .most));
         g = R * 2 ^ k;
         is-p = rounded .is;

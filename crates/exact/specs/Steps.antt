@@ -35,7 +35,7 @@ pub record Halved (f : Format) (x r : Float) : Type 0 where
   pub few : upper * 2 ^ suc (half f) ≤ 2 ^ prec f
   pub beside : Within (2 ^ half f) (near .q) 0 (upper * 2 ^ suc (half f)) 0
 
--- e is what the product of x and y, rounded, lacks: it is n smallest values exactly, and g rounded
+-- e is what the product of x and y, rounded, lacks: it is n smallest values exactly, very many of them, and g rounded
 pub record Multiplied (f : Format) (x y e : Float) : Type 0 where
   pub s : Bool
   pub t : Bool
@@ -45,7 +45,7 @@ pub record Multiplied (f : Format) (x y e : Float) : Type 0 where
   pub has-y : HasValue y t b (2 ^ low f)
   pub n : ℕ
   pub product : a * b ≡ n * 2 ^ low f
-  pub some : 0 < n
+  pub least : 2 ^ (3 * prec f) ≤ n
   pub most : n < 2 ^ widest f
   pub g : ℕ
   pub is-p : Is f (mul f x y) (unlike s t) g 0

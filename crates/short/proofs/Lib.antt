@@ -4,3 +4,13 @@
 pub mod Tests
 -- numbers that are not large: a power of two that no step passes
 pub mod Unders
+-- what a nearest count tells of the one that it is near to
+pub mod Closest
+-- where what a sum lacks is not held, the sum is much larger
+pub mod Far
+-- two sums of one signed count
+pub mod OneSum
+pub mod Squeeze
+pub mod Hair
+pub mod Aside
+pub mod Answer

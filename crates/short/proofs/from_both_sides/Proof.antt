@@ -1,22 +1,21 @@
+-- `short::from_both_sides` meets its contract: where both sides are one number, F lies between them. Assumes nothing.
+use mathlib.Core.Path.{sym, subst}
 use borrow.Author.Needs.{needs}
+use lib.Dec.{T}
+use lib.Ieee.{binary64, fits}
+use Rattle.short.proofs.Answer.{answer}
 use Rattle.short.proofs.from_both_sides.Statement.{statement}
 use Rattle.short.proofs.from_both_sides.Tie as tie
-use Rattle.short.proofs.from_both_sides.Reads as reads
-use Rattle.short.proofs.from_both_sides.Lts as lts
-use Rattle.exact.proofs.product_error.Reads as product-error-reads
-use Rattle.exact.proofs.sum_error.Reads as sum-error-reads
 
--- src/lib.rt:80:9
-product-error-requires : tie.Need-product-error-requires
-product-error-requires c κs = search needs
+held : (c : tie.Start) → T (fits binary64 (c .args .z))
+held c = subst T (sym (c .good .1 .1 .1 .0 .1)) tt
 
--- src/lib.rt:83:13
-sum-error-requires : tie.Need-sum-error-requires
-sum-error-requires c κs = search needs
-
--- src/lib.rt:76:1
 returns : tie.Need-returns
-returns c = ?
+returns c meet under =
+    let start = c .before .before in
+    let e = c .before .product-error in
+    rw (c .sum-error .ensures) (answer binary64 (start .args .x) (start .args .y) (start .args .z) (e .result) (e .ensures) under (held start)
+    (rw (c .sum-error .ensures) at meet))
 
 pub from-both-sides-spec : {M : Type 1} → statement M
-from-both-sides-spec = tie.close (tie.spec product-error-requires sum-error-requires returns)
+from-both-sides-spec = tie.close (tie.spec (λ c κs. search needs) (λ c κs. search needs) returns)
