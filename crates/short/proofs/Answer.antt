@@ -11,7 +11,7 @@ use mathlib.Core.Bool.{Bool, true, false, cond, Bool·beq}
 use lib.IntN.{pos}
 use lib.Dec.{T, lit≤}
 use lib.Pow.{pow-add, pow-pos, pow-mono}
-use lib.Ieee.{Float, fin, Format, binary32, binary64, prec, emax, low, unlike, round, sum, eq, add, sub, mul, fits}
+use lib.Ieee.{Float, fin, Format, binary32, binary64, prec, emax, low, unlike, round, sum, eq, add, sub, mul, fits, ofBits}
 use lib.Ieee.Fits.{round-fits, add-fits, sub-fits, mul-fits}
 use lib.Ieee.Exact.{HasValue}
 use Rattle.numbers.specs.Fused.{fused}
@@ -29,7 +29,7 @@ use Rattle.short.proofs.Closest.{Kept, kept, float-held, mag-is, exactl
 use Rattle.short.proofs.Far.{Far, far, enough}
 use Rattle.short.proofs.OneSum.{cancel}
 use Rattle.short.proofs.Squeeze.{Sum, Between, squeeze}
-use Rattle.short.proofs.Hair.{hair, cut, hair-under, square, many-zeros, Part, part}
+use Rattle.short.proofs.Hair.{cut, Fine, hair-under, square, many-zeros, Part, part}
 use Rattle.short.proofs.Aside.{Beyond, from-exact, from-far}
 
 -- ---- counts with their own sign before them, and with another
@@ -88,9 +88,6 @@ module _ (f : Format) (x y z e : Float) (E : Multiplied f x y e) (Z : Under f (r
 
   abbrev v : Float
   v = add f t e
-
-  abbrev m : Float
-  m = mul f s (hair f)
 
   abbrev σ : Bool
   σ = unlike (E .s) (E .t)
@@ -227,104 +224,113 @@ module _ (f : Format) (x y z e : Float) (E : Multiplied f x y e) (Z : Under f (r
   once : 2 ^ (low f + (M + 1 - low f)) ≡ 2 * 2 ^ M
   once = ap (λ (k : ℕ). 2 ^ k) (omega (arith, hair-fits f)) ∙ pow-succ' 2 M
 
-  -- a hair is m₊ - m₋, and a step of it from v to either side goes beyond X - Y
-  record Step : Type 0 where
-    m₊ : ℕ
-    m₋ : ℕ
-    is : Is f m σ m₊ m₋
-    most : Within (2 * 2 ^ M) m₊ m₋ 0 0
-    forth : (c d : ℕ) → Nearest f (v₊ + m₊) (v₋ + m₋) c d → Beyond X Y m₊ m₋ c d
-    back : (c d : ℕ) → Nearest f (v₊ + m₋) (v₋ + m₊) c d → Beyond X Y m₋ m₊ c d
+  -- ---- a hair of s
+  module _ (bits : ℕ) where
+    abbrev m : Float
+    m = mul f s (ofBits f bits)
 
-  -- v is exact: whatever a hair is
-  hair-of-s : Under f (M + 1 - low f + 0) m
-  hair-of-s = under-mul f (M + 1 - low f) 0 s (hair f) (omega (arith, hair-fits f)) large (hair-under f)
-    where
-      large : Under f (M + 1 - low f) s
-      large = record { sgn = S .sgn; n = S .mag; has = S .has; most = le-trans (le-of-eq (sym (mag-is S))) (le-trans (within-size (2 * 2 ^ M) s₊ s₋ size-s) (le-of-eq (sym once))) }
+    module _ (fine : Fine f bits) where
+      -- a hair is m₊ - m₋, and a step of it from v to either side goes beyond X - Y
+      record Step : Type 0 where
+        m₊ : ℕ
+        m₋ : ℕ
+        is : Is f m σ m₊ m₋
+        most : Within (2 * 2 ^ M) m₊ m₋ 0 0
+        forth : (c d : ℕ) → Nearest f (v₊ + m₊) (v₋ + m₋) c d → Beyond X Y m₊ m₋ c d
+        back : (c d : ℕ) → Nearest f (v₊ + m₋) (v₋ + m₊) c d → Beyond X Y m₋ m₊ c d
 
-  hair-most : hair-of-s .n ≤ 2 * 2 ^ M
-  hair-most = le-trans (hair-of-s .most) (le-of-eq (ap (λ (k : ℕ). 2 ^ (low f + k)) (add-zero (M + 1 - low f)) ∙ once))
+      -- v is exact: whatever a hair is
+      hair-of-s : Under f (M + 1 - low f + 0) m
+      hair-of-s = under-mul f (M + 1 - low f) 0 s (ofBits f bits) (omega (arith, hair-fits f)) large (hair-under f bits fine)
+        where
+          large : Under f (M + 1 - low f) s
+          large = record { sgn = S .sgn; n = S .mag; has = S .has; most = le-trans (le-of-eq (sym (mag-is S))) (le-trans (within-size (2 * 2 ^ M) s₊ s₋ size-s) (le-of-eq (sym once))) }
 
-  step-exact : X + v₋ ≡ Y + v₊ → Step
-  step-exact h =
-      let u = hair-of-s in
-      let b = Bool·beq (u .sgn) σ in
-      let held-v = float-held f v σ v₊ v₋ (add-fits f t e) (kept-v .is) in
-      record {
-        m₊ = cond b (u .n) 0;
-        m₋ = cond b 0 (u .n);
-        is = record { sgn = u .sgn; mag = u .n; has = u .has; gap = signed b (u .n) .0 };
-        most = within-sum (2 * 2 ^ M) (cond b (u .n) 0) (cond b 0 (u .n)) (le-trans (le-of-eq (signed b (u .n) .1)) hair-most);
-        forth = λ c d. from-exact f X Y v₊ v₋ (cond b (u .n) 0) (cond b 0 (u .n)) c d held-v h;
-        back = λ c d. from-exact f X Y v₊ v₋ (cond b 0 (u .n)) (cond b (u .n) 0) c d held-v h;
-      }
+      hair-most : hair-of-s .n ≤ 2 * 2 ^ M
+      hair-most = le-trans (hair-of-s .most) (le-of-eq (ap (λ (k : ℕ). 2 ^ (low f + k)) (add-zero (M + 1 - low f)) ∙ once))
 
-  -- v is not: were p + z held, nothing were lost of it, and the rest were e
-  not-held : (X + v₋ ≡ Y + v₊ → ⊥) → Held f (g + z₊) (0 + z₋) → ⊥
-  not-held ne h =
-      let q = exactly f (g + z₊) (0 + z₋) s₊ s₋ (one .near) h in
-      ne (exactly f X Y v₊ v₋ (kept-v .near) (again-held (float-held f e σ n g (E .held) (E .is-e)) (omega (arith, q))))
+      step-exact : X + v₋ ≡ Y + v₊ → Step
+      step-exact h =
+          let u = hair-of-s in
+          let b = Bool·beq (u .sgn) σ in
+          let held-v = float-held f v σ v₊ v₋ (add-fits f t e) (kept-v .is) in
+          record {
+            m₊ = cond b (u .n) 0;
+            m₋ = cond b 0 (u .n);
+            is = record { sgn = u .sgn; mag = u .n; has = u .has; gap = signed b (u .n) .0 };
+            most = within-sum (2 * 2 ^ M) (cond b (u .n) 0) (cond b 0 (u .n)) (le-trans (le-of-eq (signed b (u .n) .1)) hair-most);
+            forth = λ c d. from-exact f X Y v₊ v₋ (cond b (u .n) 0) (cond b 0 (u .n)) c d held-v h;
+            back = λ c d. from-exact f X Y v₊ v₋ (cond b 0 (u .n)) (cond b (u .n) 0) c d held-v h;
+          }
 
-  module _ (inexact : X + v₋ ≡ Y + v₊ → ⊥) where
-    far-off : Far f n (dist X Y) (dist s₊ s₋)
-    far-off = far f M (omega (arith, steps-fit f)) n g z₊ z₋ s₊ s₋ (small .0) (E .near) (small .3) (one .near)
-        (float-held f (mul f x y) σ g 0 (mul-fits f x y) (E .is-p)) (float-held f z σ z₊ z₋ fits-z is-z) (not-held inexact)
+      -- v is not: were p + z held, nothing were lost of it, and the rest were e
+      not-held : (X + v₋ ≡ Y + v₊ → ⊥) → Held f (g + z₊) (0 + z₋) → ⊥
+      not-held ne h =
+          let q = exactly f (g + z₊) (0 + z₋) s₊ s₋ (one .near) h in
+          ne (exactly f X Y v₊ v₋ (kept-v .near) (again-held (float-held f e σ n g (E .held) (E .is-e)) (omega (arith, q))))
 
-    H : Part f m σ s₊ s₋
-    H = part f s σ s₊ s₋ S (float-held f s σ s₊ s₋ (add-fits f (mul f x y) z) S) (large (dist s₊ s₋) (far-off .product))
-      where
-        large : (k : ℕ) → n ≤ 8 * k → 2 ^ (prec f + cut f) ≤ k
-        large k h = omega (arith, E .least, many-zeros f)
+      module _ (inexact : X + v₋ ≡ Y + v₊ → ⊥) where
+        far-off : Far f n (dist X Y) (dist s₊ s₋)
+        far-off = far f M (omega (arith, steps-fit f)) n g z₊ z₋ s₊ s₋ (small .0) (E .near) (small .3) (one .near)
+            (float-held f (mul f x y) σ g 0 (mul-fits f x y) (E .is-p)) (float-held f z σ z₊ z₋ fits-z is-z) (not-held inexact)
 
-    small-hair : dist (H .m₊) (H .m₋) ≤ 2 * 2 ^ M
-    small-hair = le-trans (le-of-eq (sym (mul-one (dist (H .m₊) (H .m₋))))) (le-trans (mul-le-mul-left (dist (H .m₊) (H .m₋)) (pow-pos (cut f)))
-        (le-trans (le-of-eq (H .size)) (within-size (2 * 2 ^ M) s₊ s₋ size-s)))
+        H : Part f (cut f bits) m σ s₊ s₋
+        H = part f bits fine s σ s₊ s₋ S (float-held f s σ s₊ s₋ (add-fits f (mul f x y) z) S) (large (dist s₊ s₋) (far-off .product))
+          where
+            large : (k : ℕ) → n ≤ 8 * k → 2 ^ (prec f + cut f bits) ≤ k
+            large k h = omega (arith, E .least, many-zeros f bits fine)
 
-    beyond : (n₊ n₋ c d : ℕ) → dist n₊ n₋ ≡ dist (H .m₊) (H .m₋) → Nearest f (v₊ + n₊) (v₋ + n₋) c d → Beyond X Y n₊ n₋ c d
-    beyond n₊ n₋ c d same N = from-far (2 ^ (prec f - 1)) X Y v₊ v₋ n₊ n₋ c d (dist s₊ s₋) (enough f)
-        (relative f M (omega (arith, steps-fit f)) X Y v₊ v₋ (small-rest .1) (kept-v .near)) (far-off .rest)
-        (relative f (M + 4) (omega (arith, steps-fit f)) (v₊ + n₊) (v₋ + n₋) c d (aside n₊ n₋ (within-dist (2 * 2 ^ M) n₊ n₋ (le-trans (le-of-eq same) small-hair))) N)
-        (rw (same, square f) (mul-left-comm (dist (H .m₊) (H .m₋)) 64 (2 ^ cut f) ∙ ap (λ (k : ℕ). 64 * k) (H .size)))
+        small-hair : dist (H .m₊) (H .m₋) ≤ 2 * 2 ^ M
+        small-hair = le-trans (le-of-eq (sym (mul-one (dist (H .m₊) (H .m₋))))) (le-trans (mul-le-mul-left (dist (H .m₊) (H .m₋)) (pow-pos (cut f bits)))
+            (le-trans (le-of-eq (H .size)) (within-size (2 * 2 ^ M) s₊ s₋ size-s)))
 
-    step-far : Step
-    step-far = record {
-      m₊ = H .m₊;
-      m₋ = H .m₋;
-      is = H .is;
-      most = within-dist (2 * 2 ^ M) (H .m₊) (H .m₋) small-hair;
-      forth = λ c d. beyond (H .m₊) (H .m₋) c d refl;
-      back = λ c d. beyond (H .m₋) (H .m₊) c d (turned (H .m₋) (H .m₊));
-    }
-      where
-        turned : (a b : ℕ) → dist a b ≡ dist b a
-        turned a b = omega arith
+        beyond : (n₊ n₋ c d : ℕ) → dist n₊ n₋ ≡ dist (H .m₊) (H .m₋) → Nearest f (v₊ + n₊) (v₋ + n₋) c d → Beyond X Y n₊ n₋ c d
+        beyond n₊ n₋ c d same N = from-far (2 ^ (prec f - 1)) X Y v₊ v₋ n₊ n₋ c d (dist s₊ s₋) (enough f)
+            (relative f M (omega (arith, steps-fit f)) X Y v₊ v₋ (small-rest .1) (kept-v .near)) (far-off .rest)
+            (relative f (M + 4) (omega (arith, steps-fit f)) (v₊ + n₊) (v₋ + n₋) c d (aside n₊ n₋ (within-dist (2 * 2 ^ M) n₊ n₋ (le-trans (le-of-eq same) small-hair))) N)
+            (rw (same, ← H .size, mul-left-comm 64 (dist (H .m₊) (H .m₋)) (2 ^ cut f bits)) (mul-le-mul-left (dist (H .m₊) (H .m₋)) (square f bits fine)))
 
-  step : Step
-  step = elim (decLe (X + v₋) (Y + v₊)) [
-    | yes h ↦ elim (decLe (Y + v₊) (X + v₋)) [ yes l ↦ step-exact (omega arith) | no l ↦ step-far (λ e. omega arith) ]
-    | no h ↦ step-far (λ e. omega arith)
-  ]
+        step-far : Step
+        step-far = record {
+          m₊ = H .m₊;
+          m₋ = H .m₋;
+          is = H .is;
+          most = within-dist (2 * 2 ^ M) (H .m₊) (H .m₋) small-hair;
+          forth = λ c d. beyond (H .m₊) (H .m₋) c d refl;
+          back = λ c d. beyond (H .m₋) (H .m₊) c d (turned (H .m₋) (H .m₊));
+        }
+          where
+            turned : (a b : ℕ) → dist a b ≡ dist b a
+            turned a b = omega arith
 
-  -- ---- both sides
-  lower : Kept f (sub f v m) σ (v₊ + step .m₋) (v₋ + step .m₊)
-  lower = kept (M + 4) (sub-rounds (kept-v .is) (step .is)) (aside (step .m₋) (step .m₊) (turned (2 * 2 ^ M) (step .m₊) (step .m₋) (step .most))) (steps-fit f)
-
-  upper : Kept f (add f v m) σ (v₊ + step .m₊) (v₋ + step .m₋)
-  upper = kept (M + 4) (add-rounds (kept-v .is) (step .is)) (aside (step .m₊) (step .m₋) (step .most)) (steps-fit f)
-
-  sized : (c d a b : ℕ) → Within (2 * 2 ^ M) c d 0 0 → Nearest f (v₊ + c) (v₋ + d) a b → Within (2 * (4 * 2 ^ M)) a b 0 0
-  sized c d a b w N = doubled (4 * 2 ^ M) (v₊ + c) (v₋ + d) a b (omega (arith, size-v)) (lost-le f (v₊ + c) (v₋ + d) a b N)
-
-  between : Between (s₊ + lower .c) (s₋ + lower .d) (s₊ + X) (s₋ + Y) (s₊ + upper .c) (s₋ + upper .d)
-  between =
-      let l = step .back (lower .c) (lower .d) (lower .near) in
-      let u = step .forth (upper .c) (upper .d) (upper .near) in
-      elim (decLe (step .m₋) (step .m₊)) [
-        | yes h ↦ inl (omega (arith, l .down h), omega (arith, u .up h))
-        | no h ↦ inr (omega (arith, u .down (omega arith)), omega (arith, l .up (omega arith)))
+      step : Step
+      step = elim (decLe (X + v₋) (Y + v₊)) [
+        | yes h ↦ elim (decLe (Y + v₊) (X + v₋)) [ yes l ↦ step-exact (omega arith) | no l ↦ step-far (λ e. omega arith) ]
+        | no h ↦ step-far (λ e. omega arith)
       ]
 
-  pub answer : eq (add f s (sub f v m)) (add f s (add f v m)) ≡ true → add f s (sub f v m) ≡ fused f x y z
-  answer h =
-      squeeze (with-s (sub f v m) (lower .c) (lower .d) (lower .is) (sized (step .m₋) (step .m₊) (lower .c) (lower .d) (turned (2 * 2 ^ M) (step .m₊) (step .m₋) (step .most)) (lower .near))) whole (with-s (add f v m) (upper .c) (upper .d) (upper .is) (sized (step .m₊) (step .m₋) (upper .c) (upper .d) (step .most) (upper .near))) between h
+      -- ---- both sides
+      lower : Kept f (sub f v m) σ (v₊ + step .m₋) (v₋ + step .m₊)
+      lower = kept (M + 4) (sub-rounds (kept-v .is) (step .is)) (aside (step .m₋) (step .m₊) (turned (2 * 2 ^ M) (step .m₊) (step .m₋) (step .most))) (steps-fit f)
+
+      upper : Kept f (add f v m) σ (v₊ + step .m₊) (v₋ + step .m₋)
+      upper = kept (M + 4) (add-rounds (kept-v .is) (step .is)) (aside (step .m₊) (step .m₋) (step .most)) (steps-fit f)
+
+      sized : (c d a b : ℕ) → Within (2 * 2 ^ M) c d 0 0 → Nearest f (v₊ + c) (v₋ + d) a b → Within (2 * (4 * 2 ^ M)) a b 0 0
+      sized c d a b w N = doubled (4 * 2 ^ M) (v₊ + c) (v₋ + d) a b (omega (arith, size-v)) (lost-le f (v₊ + c) (v₋ + d) a b N)
+
+      between : Between (s₊ + lower .c) (s₋ + lower .d) (s₊ + X) (s₋ + Y) (s₊ + upper .c) (s₋ + upper .d)
+      between =
+          let l = step .back (lower .c) (lower .d) (lower .near) in
+          let u = step .forth (upper .c) (upper .d) (upper .near) in
+          elim (decLe (step .m₋) (step .m₊)) [
+            | yes h ↦ inl (omega (arith, l .down h), omega (arith, u .up h))
+            | no h ↦ inr (omega (arith, u .down (omega arith)), omega (arith, l .up (omega arith)))
+          ]
+
+      between-sums : eq (add f s (sub f v m)) (add f s (add f v m)) ≡ true → add f s (sub f v m) ≡ fused f x y z
+      between-sums h =
+          squeeze (with-s (sub f v m) (lower .c) (lower .d) (lower .is) (sized (step .m₋) (step .m₊) (lower .c) (lower .d) (turned (2 * 2 ^ M) (step .m₊) (step .m₋) (step .most)) (lower .near))) whole (with-s (add f v m) (upper .c) (upper .d) (upper .is) (sized (step .m₊) (step .m₋) (upper .c) (upper .d) (step .most) (upper .near))) between h
+
+    pub answer : eq (add f s (sub f v m)) (add f s (add f v m)) ≡ true → Fine f bits → add f s (sub f v m) ≡ fused f x y z
+    answer h fine = between-sums fine h

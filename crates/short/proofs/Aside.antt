@@ -21,7 +21,7 @@ from-exact f X Y v₊ v₋ n₊ n₋ c₊ c₋ H e N = record {
 }
 
 -- both roundings lose a part in P at most, and X - Y is a part in P of S, or eight
-small : (P lost again w S n : ℕ) → 64 ≤ P → lost * P ≤ w → w * P ≤ 8 * S → again * P ≤ w + lost + n → n * (P * P) ≡ 64 * S → lost + again ≤ n
+small : (P lost again w S n : ℕ) → 64 ≤ P → lost * P ≤ w → w * P ≤ 8 * S → again * P ≤ w + lost + n → 64 * S ≤ n * (P * P) → lost + again ≤ n
 small P lost again w S n l a b c e =
     le-of-mul-le-mul-right {m = lost + again} {n = n} {k = P * P}
     (omega (
@@ -36,7 +36,7 @@ small P lost again w S n l a b c e =
     some = omega arith
 
 pub from-far : (P X Y v₊ v₋ n₊ n₋ c₊ c₋ S : ℕ) → 64 ≤ P → dist (X + v₋) (Y + v₊) * P ≤ dist X Y → dist X Y * P ≤ 8 * S
-    → dist (v₊ + n₊ + c₋) (v₋ + n₋ + c₊) * P ≤ dist (v₊ + n₊) (v₋ + n₋) → dist n₊ n₋ * (P * P) ≡ 64 * S → Beyond X Y n₊ n₋ c₊ c₋
+    → dist (v₊ + n₊ + c₋) (v₋ + n₋ + c₊) * P ≤ dist (v₊ + n₊) (v₋ + n₋) → 64 * S ≤ dist n₊ n₋ * (P * P) → Beyond X Y n₊ n₋ c₊ c₋
 from-far P X Y v₊ v₋ n₊ n₋ c₊ c₋ S l a b c e =
     let s = small P (dist (X + v₋) (Y + v₊)) (dist (v₊ + n₊ + c₋) (v₋ + n₋ + c₊)) (dist X Y) S (dist n₊ n₋) l a b (le-trans c (three X Y v₊ v₋ n₊ n₋)) e in
     beyond X Y v₊ v₋ n₊ n₋ c₊ c₋ (dist (X + v₋) (Y + v₊)) (dist (v₊ + n₊ + c₋) (v₋ + n₋ + c₊)) (dist n₊ n₋)
