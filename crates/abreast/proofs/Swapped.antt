@@ -1,9 +1,9 @@
 -- F(x,y,z) is F(y,x,z). Assumes nothing.
-use Prim.Native.Nat.{ℕ, _*_}
+use Prim.Native.Nat.{_*_}
 use mathlib.Core.Bool.{Bool, true, false}
-use mathlib.Core.Path.{_≡_, refl, ap, ap₂, _∙_}
+use mathlib.Core.Path.{_≡_, refl, ap}
 use native.Mathlib.Nat.{mul-comm}
-use lib.Ieee.{Float, nan, inf, fin, Format, unlike, up, down, round, sum, add, mul}
+use lib.Ieee.{Float, nan, inf, fin, Format, unlike, up, down, add, mul}
 use Rattle.numbers.specs.Fused.{fused}
 
 signs : (s t : Bool) → unlike s t ≡ unlike t s

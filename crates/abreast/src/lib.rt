@@ -3,9 +3,11 @@
 use book::Amplitude;
 use book::Pair;
 use fused::fused;
+use short::Sides;
+use short::all_meet;
 use short::all_modest;
 use short::are_fit;
-use short::with_upper;
+use short::from_both_sides;
 ghost use mathlib.Core.Path.{_≡_};
 ghost use Rattle.book.specs.Gates.{F};
 ghost use Rattle.book.specs.State.{amplitude, pair};
@@ -15,7 +17,7 @@ ghost use Rattle.abreast.specs.Split.{Split, Beside, times};
 pub fn upper_beside(k: f64, s: f64) -> f64
     ensures { λ r. ⌜ Beside k s r ⌝ }
 {
-    if are_fit(k, k, s, s) {
+    if are_fit(k, s) {
         return exact::upper(k);
     }
     0.0
@@ -27,27 +29,49 @@ pub fn upper(k: f64) -> f64
     upper_beside(k, 0.0)
 }
 
-// F(x,k,z) and F(y,l,w); h is the upper part of k, and i that of l. The numbers come one by one: a struct would go through memory, to be read as a whole
-// before its parts have arrived. What is handed back are two neighbours in memory, and from these the compiler goes back, joining two steps to one.
-pub fn two(x: f64, k: f64, h: f64, z: f64, y: f64, l: f64, i: f64, w: f64) -> Amplitude
-    requires { ⌜ Split k h × Split l i ⌝ }
-    ensures { λ r. ⌜ r ≡ amplitude (F x k z) (F y l w) ⌝ }
+// What k and s make of (x,y): two F. half is the upper part of k. The numbers come one by one: a struct would go through memory, to be read as a whole
+// before its parts have arrived.
+pub fn two(k: f64, s: f64, half: f64, x: f64, y: f64) -> Amplitude
+    requires { ⌜ Beside k s half ⌝ }
+    ensures { λ r. ⌜ r ≡ times k s (amplitude x y) ⌝ }
 {
-    if h != 0.0 {
-        if i != 0.0 {
-            if are_fit(x, y, z, w) {
-                let re = with_upper(x, k, h, z);
-                let im = with_upper(y, l, i, w);
-                return Amplitude { re, im };
+    if half != 0.0 {
+        if all_modest(x, x, y, y) {
+            let re = from_both_sides(x, k, half, -y * s);
+            let im = from_both_sides(y, k, half, x * s);
+            if re.left == re.right {
+                if im.left == im.right {
+                    return Amplitude {
+                        re: re.left,
+                        im: im.left,
+                    };
+                }
             }
         }
     }
-    let re = fused(x, k, z);
-    let im = fused(y, l, w);
+    let re = fused(x, k, -y * s);
+    let im = fused(y, k, x * s);
     Amplitude { re, im }
 }
 
-// What k and s make of two amplitudes: four F, first those whose values are stored beside each other. half is the upper part of k.
+// The pair that four make where all meet.
+pub fn lefts(re0: Sides, im0: Sides, re1: Sides, im1: Sides) -> Pair
+    ensures { λ r. ⌜ r ≡ pair (amplitude (re0 .left) (im0 .left)) (amplitude (re1 .left) (im1 .left)) ⌝ }
+{
+    Pair {
+        s0: Amplitude {
+            re: re0.left,
+            im: im0.left,
+        },
+        s1: Amplitude {
+            re: re1.left,
+            im: im1.left,
+        },
+    }
+}
+
+// What k and s make of two amplitudes: four F, first those whose values are stored beside each other. half is the upper part of k. All four stand before the
+// test whether they meet: up to a branch the compiler works out two at a time.
 pub fn four(k: f64, s: f64, half: f64, ab: Amplitude, cd: Amplitude) -> Pair
     requires { ⌜ Beside k s half ⌝ }
     ensures { λ r. ⌜ r ≡ pair (times k s ab) (times k s cd) ⌝ }
@@ -58,14 +82,13 @@ pub fn four(k: f64, s: f64, half: f64, ab: Amplitude, cd: Amplitude) -> Pair
     let d = cd.im;
     if half != 0.0 {
         if all_modest(a, c, b, d) {
-            let re0 = with_upper(a, k, half, -b * s);
-            let re1 = with_upper(c, k, half, -d * s);
-            let im0 = with_upper(b, k, half, a * s);
-            let im1 = with_upper(d, k, half, c * s);
-            return Pair {
-                s0: Amplitude { re: re0, im: im0 },
-                s1: Amplitude { re: re1, im: im1 },
-            };
+            let re0 = from_both_sides(a, k, half, -b * s);
+            let re1 = from_both_sides(c, k, half, -d * s);
+            let im0 = from_both_sides(b, k, half, a * s);
+            let im1 = from_both_sides(d, k, half, c * s);
+            if all_meet(re0, re1, im0, im1) {
+                return lefts(re0, im0, re1, im1);
+            }
         }
     }
     Pair {

@@ -1,7 +1,8 @@
 // The rules of the gates that need F: RZ, U, and P at s1. By value, operation for operation as 01 writes them. Where the numbers are near 1 their F stand
-// side by side, behind one test; what they multiply with is split once, before the first pair.
+// side by side, behind one test of the numbers and before one of the sides; what they multiply with is split once, before the first pair.
 // An inner room: its rules ask for the multipliers' upper parts, and their callers are proved.
 use abreast::four;
+use abreast::lefts;
 use abreast::two;
 use abreast::upper;
 use abreast::upper_beside;
@@ -10,8 +11,9 @@ use book::Angle;
 use book::Matrix;
 use book::Pair;
 use fused::fused;
+use short::all_meet;
 use short::all_modest;
-use short::with_upper;
+use short::from_both_sides;
 ghost use mathlib.Core.Bool.{true};
 ghost use mathlib.Core.Path.{_≡_};
 ghost use Rattle.book.specs.Gates as Gates;
@@ -90,7 +92,7 @@ fn turned(m: Amplitude, z: Amplitude) -> Amplitude
     Amplitude { re, im }
 }
 
-// Four F behind one test, and else one by one.
+// Four F at once where all their sides meet, and else one by one.
 pub fn rz_rule(angle: Angle, h: Uppers, p: Pair) -> Pair
     requires { ⌜ RzSplit angle h ⌝ }
     ensures { λ r. ⌜ r ≡ rzRule angle p ⌝ }
@@ -105,14 +107,13 @@ pub fn rz_rule(angle: Angle, h: Uppers, p: Pair) -> Pair
         if h.s != 0.0 {
             if h.t != 0.0 {
                 if all_modest(a, c, b, d) {
-                    let re0 = with_upper(a, k, h.k, -b * -s);
-                    let im0 = with_upper(a, -s, h.t, b * k);
-                    let re1 = with_upper(c, k, h.k, -d * s);
-                    let im1 = with_upper(c, s, h.s, d * k);
-                    return Pair {
-                        s0: Amplitude { re: re0, im: im0 },
-                        s1: Amplitude { re: re1, im: im1 },
-                    };
+                    let re0 = from_both_sides(a, k, h.k, -b * -s);
+                    let im0 = from_both_sides(a, -s, h.t, b * k);
+                    let re1 = from_both_sides(c, k, h.k, -d * s);
+                    let im1 = from_both_sides(c, s, h.s, d * k);
+                    if all_meet(re0, im0, re1, im1) {
+                        return lefts(re0, im0, re1, im1);
+                    }
                 }
             }
         }
@@ -148,7 +149,8 @@ fn u_one_by_one(matrix: Matrix, pair: Pair) -> Pair
     Pair { s0, s1 }
 }
 
-// Ten F behind one test, and else one by one. A matrix of which one number is not split has no p here.
+// Ten F at once where all their sides meet, and else one by one. All ten stand before the first test whether they meet: up to a branch the compiler works out
+// two at a time. What is made of a term whose sides do not meet is thrown away. A matrix of which one number is not split has no p here.
 pub fn u_rule(matrix: Matrix, h: Uppers, pair: Pair) -> Pair
     requires { ⌜ USplit matrix h ⌝ }
     ensures { λ r. ⌜ r ≡ uRule matrix pair ⌝ }
@@ -163,20 +165,25 @@ pub fn u_rule(matrix: Matrix, h: Uppers, pair: Pair) -> Pair
     let d = pair.s1.im;
     if h.p != 0.0 {
         if all_modest(a, c, b, d) {
-            let q0 = with_upper(c, matrix.entries[1].re, h.q, -r * d);
-            let q1 = with_upper(d, matrix.entries[1].re, h.q, r * c);
-            let e0 = with_upper(c, e, h.e, -f * d);
-            let e1 = with_upper(d, e, h.e, f * c);
-            let v0 = with_upper(b, -v, h.w, e0);
-            let v1 = with_upper(a, v, h.v, e1);
-            let re0 = with_upper(a, matrix.entries[0].re, h.p, q0);
-            let im0 = with_upper(b, matrix.entries[0].re, h.p, q1);
-            let re1 = with_upper(a, matrix.entries[2].re, h.u, v0);
-            let im1 = with_upper(b, matrix.entries[2].re, h.u, v1);
-            return Pair {
-                s0: Amplitude { re: re0, im: im0 },
-                s1: Amplitude { re: re1, im: im1 },
-            };
+            let q0 = from_both_sides(c, matrix.entries[1].re, h.q, -r * d);
+            let q1 = from_both_sides(d, matrix.entries[1].re, h.q, r * c);
+            let e0 = from_both_sides(c, e, h.e, -f * d);
+            let e1 = from_both_sides(d, e, h.e, f * c);
+            let v0 = from_both_sides(b, -v, h.w, e0.left);
+            let v1 = from_both_sides(a, v, h.v, e1.left);
+            let re0 = from_both_sides(a, matrix.entries[0].re, h.p, q0.left);
+            let im0 = from_both_sides(b, matrix.entries[0].re, h.p, q1.left);
+            let re1 = from_both_sides(a, matrix.entries[2].re, h.u, v0.left);
+            let im1 = from_both_sides(b, matrix.entries[2].re, h.u, v1.left);
+            if all_meet(q0, q1, e0, e1) {
+                if all_meet(v0, v1, re0, im0) {
+                    if re1.left == re1.right {
+                        if im1.left == im1.right {
+                            return lefts(re0, im0, re1, im1);
+                        }
+                    }
+                }
+            }
         }
     }
     u_one_by_one(matrix, pair)
@@ -187,11 +194,7 @@ pub fn p_upper(angle: Angle, half: f64, cd: Amplitude) -> Amplitude
     requires { ⌜ PSplit angle half ⌝ }
     ensures { λ r. ⌜ r ≡ pUpper angle cd ⌝ }
 {
-    let k = angle.cosine;
-    let s = angle.sine;
-    let c = cd.re;
-    let d = cd.im;
-    two(c, k, half, -d * s, d, k, half, c * s)
+    two(angle.cosine, angle.sine, half, cd.re, cd.im)
 }
 
 // ... at two places.

@@ -1,32 +1,35 @@
--- `abreast::two` meets its contract: side by side where both multipliers are split and the other four numbers are fit, and else one by one.
--- Assumes nothing.
+-- `abreast::two` meets its contract: by the law on sides that meet, and else F by F. Assumes nothing.
 use mathlib.Core.Path.{ap₂}
 use borrow.Author.Needs.{needs}
-use lib.Ieee.{binary64}
 use Rattle.book.specs.State.{amplitude}
-use Rattle.abreast.proofs.Terms.{term}
+use Rattle.abreast.proofs.Terms.{Told, multiplied}
 use Rattle.abreast.proofs.two.Statement.{statement}
 use Rattle.abreast.proofs.two.Tie as tie
 
-with-upper-requires : tie.Need-with-upper-requires
-with-upper-requires c κs =
-    let m = c .before .are-fit .ensures (c .if3 .taken) in
-    (m .0, c .before .before .before .before .pre .0 (c .before .before .before .if1 .taken), term binary64 _ (m .2))
+abbrev start : tie.Then2 → tie.Start
+start t = t .before .before .before
 
-with-upper-requires-2 : tie.Need-with-upper-requires-2
-with-upper-requires-2 c κs =
-    let b = c .before in
-    let m = b .before .are-fit .ensures (b .if3 .taken) in
-    (m .1, b .before .before .before .before .pre .1 (b .before .before .if2 .taken), term binary64 _ (m .3))
+told : (t : tie.Then2) → let a = start t .args in Told (a .k) (a .s) (a .half) (amplitude (a .x) (a .y))
+told t =
+    let m = t .before .all-modest .ensures (t .if2 .taken) in
+    let h = start t .pre (t .before .before .if1 .taken) in
+    record { re = m .0; im = m .2; upper = h .0; below = h .1 }
+
+returns : tie.Need-returns
+returns c =
+    let re-met = c .before .before in
+    let im = re-met .before .before in
+    let re = im .before in
+    multiplied _ _ (told (re .before)) (re-met .if3 .taken) (c .if4 .taken) (re .from-both-sides .ensures) (im .from-both-sides2 .ensures)
 
 pub two-spec : {M : Type 1} → statement M
 two-spec =
     tie.close
     (tie.spec
     (λ c κs. search needs)
-    with-upper-requires
-    with-upper-requires-2
-    (λ c. ap₂ amplitude (c .before .with-upper .ensures) (c .with-upper2 .ensures))
+    (λ c κs. let t = told c in (t .re .near, t .upper))
+    (λ c κs. let t = told (c .before) in (t .im .near, t .upper))
+    returns
     (λ c κs. search needs)
     (λ c κs. search needs)
     (λ c. ap₂ amplitude (c .before .fused .ensures) (c .fused2 .ensures)))

@@ -7,7 +7,7 @@ use Rattle.abreast.proofs.upper_beside.Statement.{statement}
 use Rattle.abreast.proofs.upper_beside.Tie as tie
 
 returns : tie.Need-returns
-returns c = λ _. (c .upper .ensures, c .before .before .are-fit .ensures (c .before .if1 .taken) .2)
+returns c = λ _. (c .upper .ensures, c .before .before .are-fit .ensures (c .before .if1 .taken) .1)
 
 returns-2 : tie.Need-returns-2
 unfolding eq ne ofBits

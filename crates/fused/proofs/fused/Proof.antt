@@ -1,4 +1,4 @@
--- `fused::fused` meets its contract: ordinary numbers go the short way or are left to `terms`, and other operands need no rounding of their own.
+-- `fused::fused` meets its contract: of ordinary numbers, sides that meet are F, and the rest is left to `terms`; other operands need no rounding of their own.
 -- Assumes nothing.
 use mathlib.Core.Path.{_∙_}
 use mathlib.Core.Logic.{inl, inr}
@@ -24,8 +24,11 @@ returns-2 c =
     c .with-one-nan2 .ensures
     ∙ special-factor binary64 (a .x) (a .y) (a .z) (inr (not-yes (c .before .before .is-ordinary2 .ensures) (c .before .if2 .taken)))
 
-with-upper-requires : tie.Need-with-upper-requires
-with-upper-requires c κs = let near = c .before .before .are-near .ensures (c .before .if4 .taken) in (near .0, c .upper .ensures, near .2)
+returns-3 : tie.Need-returns-3
+returns-3 c =
+    let sides = c .before .before in
+    let near = sides .before .before in
+    sides .from-both-sides .ensures (c .if5 .taken) (near .before .are-near .ensures (near .if4 .taken) .2)
 
 returns-4 : tie.Need-returns-4
 returns-4 c =
@@ -45,7 +48,7 @@ returns-5 c =
     let first = second .before .before in
     let a = first .before .before .args in
     zero-term binary64 (a .x) (a .y) (a .z) (not-no (first .before .is-ordinary .ensures) (first .if1 .left))
-    (not-no (second .before .is-ordinary2 .ensures) (second .if2 .left)) (yes (c .before .is-finite .ensures) (c .if5 .taken))
+    (not-no (second .before .is-ordinary2 .ensures) (second .if2 .left)) (yes (c .before .is-finite .ensures) (c .if6 .taken))
     (no (third .before .is-ordinary3 .ensures) (third .if3 .left))
 
 returns-6 : tie.Need-returns-6
@@ -56,7 +59,7 @@ returns-6 c =
     let a = first .before .before .args in
     c .with-one-nan3 .ensures
     ∙ special-term binary64 (a .x) (a .y) (a .z) (not-no (first .before .is-ordinary .ensures) (first .if1 .left))
-    (not-no (second .before .is-ordinary2 .ensures) (second .if2 .left)) (no (fourth .before .is-finite .ensures) (fourth .if5 .left))
+    (not-no (second .before .is-ordinary2 .ensures) (second .if2 .left)) (no (fourth .before .is-finite .ensures) (fourth .if6 .left))
 
 pub fused-spec : {M : Type 1} → statement M
 fused-spec =
@@ -71,8 +74,8 @@ fused-spec =
     (λ c κs. search needs)
     (λ c κs. search needs)
     (λ c κs. c .before .are-near .ensures (c .if4 .taken) .1)
-    with-upper-requires
-    (λ c. search needs)
+    (λ c κs. (c .before .before .are-near .ensures (c .before .if4 .taken) .0, c .upper .ensures))
+    returns-3
     (λ c κs. search needs)
     returns-4
     (λ c κs. search needs)

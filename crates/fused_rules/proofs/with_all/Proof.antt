@@ -1,7 +1,6 @@
 -- `fused_rules::with_all` meets its contract: 0 is no upper part. Assumes nothing.
 use mathlib.Core.Bool.{not, true≢false}
 use mathlib.Core.Path.{refl, sym, ap}
-use borrow.Author.Needs.{needs}
 use lib.Ieee.{eq, ne, ofBits}
 use Rattle.fused_rules.proofs.with_all.Statement.{statement}
 use Rattle.fused_rules.proofs.with_all.Tie as tie
