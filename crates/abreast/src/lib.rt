@@ -39,13 +39,11 @@ pub fn two(k: f64, s: f64, half: f64, x: f64, y: f64) -> Amplitude
         if all_modest(x, x, y, y) {
             let re = from_both_sides(x, k, half, -y * s);
             let im = from_both_sides(y, k, half, x * s);
-            if re.left == re.right {
-                if im.left == im.right {
-                    return Amplitude {
-                        re: re.left,
-                        im: im.left,
-                    };
-                }
+            if all_meet(re, re, im, im) {
+                return Amplitude {
+                    re: re.left,
+                    im: im.left,
+                };
             }
         }
     }

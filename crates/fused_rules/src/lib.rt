@@ -175,14 +175,9 @@ pub fn u_rule(matrix: Matrix, h: Uppers, pair: Pair) -> Pair
             let im0 = from_both_sides(b, matrix.entries[0].re, h.p, q1.left);
             let re1 = from_both_sides(a, matrix.entries[2].re, h.u, v0.left);
             let im1 = from_both_sides(b, matrix.entries[2].re, h.u, v1.left);
-            if all_meet(q0, q1, e0, e1) {
-                if all_meet(v0, v1, re0, im0) {
-                    if re1.left == re1.right {
-                        if im1.left == im1.right {
-                            return lefts(re0, im0, re1, im1);
-                        }
-                    }
-                }
+            let terms = all_meet(q0, q1, e0, e1) & all_meet(v0, v0, v1, v1);
+            if terms & all_meet(re0, im0, re1, im1) {
+                return lefts(re0, im0, re1, im1);
             }
         }
     }

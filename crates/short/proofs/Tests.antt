@@ -5,7 +5,7 @@ use mathlib.Core.Logic.{_⊎_, inl, inr}
 use Prim.Native.Nat.{ℕ, suc, _+_, _*_, _/_, _%_, _^_, _≤_, _<_}
 use native.Mathlib.Nat.{le-of-lt, lt-of-lt-of-le, eq-zero-or-pos}
 use native.Mathlib.Omega.{arith}
-use mathlib.Core.Bool.{Bool, true, false, not, cond, true≢false}
+use mathlib.Core.Bool.{Bool, true, false, not, cond, _&&_, true≢false}
 use lib.IntN.{ℤ}
 use lib.Dec.{T}
 use lib.Pow.{pow-mono, shl-lt}
@@ -17,6 +17,11 @@ use Rattle.exact.specs.Window.{first, last, reach}
 use Rattle.exact.specs.Steps.{Near, Under}
 use Rattle.exact.proofs.Written.{Written, written, place-under}
 use Rattle.short.specs.Steps.{Block}
+
+-- ---- two tests at once
+pub both : (p q : Bool) → (p && q) ≡ true → (p ≡ true) × (q ≡ true)
+both true q h = (refl, h)
+both false q h = absurd (true≢false (sym h))
 
 -- ---- a NaN among the operands makes a NaN
 pub number : (x : Float) → ne x x ≡ false → T (not (isNan x))

@@ -17,10 +17,10 @@ told t =
 
 returns : tie.Need-returns
 returns c =
-    let re-met = c .before .before in
-    let im = re-met .before .before in
+    let im = c .before .before in
     let re = im .before in
-    multiplied _ _ (told (re .before)) (re-met .if3 .taken) (c .if4 .taken) (re .from-both-sides .ensures) (im .from-both-sides2 .ensures)
+    let met = c .before .all-meet .ensures (c .if3 .taken) in
+    multiplied _ _ (told (re .before)) (met .0) (met .2) (re .from-both-sides .ensures) (im .from-both-sides2 .ensures)
 
 pub two-spec : {M : Type 1} → statement M
 two-spec =
@@ -29,6 +29,7 @@ two-spec =
     (λ c κs. search needs)
     (λ c κs. let t = told c in (t .re .near, t .upper))
     (λ c κs. let t = told (c .before) in (t .im .near, t .upper))
+    (λ c κs. search needs)
     returns
     (λ c κs. search needs)
     (λ c κs. search needs)

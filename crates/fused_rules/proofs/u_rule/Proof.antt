@@ -9,6 +9,7 @@ use Rattle.exact.specs.Window.{reach}
 use Rattle.exact.specs.Steps.{Under}
 use Rattle.short.specs.Steps.{Modest, Meet}
 use Rattle.short.specs.declared.Sides.{Sides}
+use Rattle.short.proofs.Tests.{both}
 use Rattle.short.proofs.Unders.{under-more, under-neg, under-mul, under-fused}
 use Rattle.abreast.proofs.Swapped.{swapped}
 use Rattle.abreast.proofs.Terms.{Around}
@@ -67,10 +68,9 @@ told t =
 
 returns : tie.Need-returns
 returns c =
-    let last = c .before .before .before in
-    let second = last .before .before in
-    let first = second .before .before in
-    let im1 = first .before .before in
+    let all = c .before in
+    let results = all .before in
+    let im1 = results .before .before .before in
     let re1 = im1 .before in
     let im0 = re1 .before in
     let re0 = im0 .before in
@@ -82,19 +82,22 @@ returns c =
     let q0 = q1 .before in
     let t = told (tests e1) in
     let h = t .h in
-    let m = first .before .all-meet .ensures (first .if3 .taken) in
-    let n = second .before .all-meet2 .ensures (second .if4 .taken) in
+    let met = both _ _ (all .if3 .taken) in
+    let terms = both _ _ (met .0) in
+    let m = results .before .before .all-meet .ensures (terms .0) in
+    let n = results .before .all-meet2 .ensures (terms .1) in
+    let o = results .all-meet3 .ensures (met .1) in
     let q0′ = behind 1 _ _ _ (q0 .from-both-sides .ensures) (m .0) (product-neg _ _ (h .r-most) (t .d .under)) (omega arith) (t .c .under) (h .q-most) in
     let q1′ = behind 1 _ _ _ (q1 .from-both-sides2 .ensures) (m .1) (product _ _ (h .r-most) (t .c .under)) (omega arith) (t .d .under) (h .q-most) in
     let e0′ = behind 1 _ _ _ (e0 .from-both-sides3 .ensures) (m .2) (product-neg _ _ (h .f-most) (t .d .under)) (omega arith) (t .c .under) (h .e-most) in
     let e1′ = behind 1 _ _ _ (e1 .from-both-sides4 .ensures) (m .3) (product _ _ (h .f-most) (t .c .under)) (omega arith) (t .d .under) (h .e-most) in
     let v0′ = behind 2 _ _ _ (v0 .from-both-sides5 .ensures) (n .0) e0′ (omega arith) (t .b .under) (under-neg binary64 1 _ (h .v-most)) in
-    let v1′ = behind 2 _ _ _ (v1 .from-both-sides6 .ensures) (n .1) e1′ (omega arith) (t .a .under) (h .v-most) in
+    let v1′ = behind 2 _ _ _ (v1 .from-both-sides6 .ensures) (n .2) e1′ (omega arith) (t .a .under) (h .v-most) in
     rw (c .lefts .ensures) (ap₂ pair
-    (ap₂ amplitude (within 2 _ _ _ (re0 .from-both-sides7 .ensures) (n .2) q0′ (omega arith))
-    (within 2 _ _ _ (im0 .from-both-sides8 .ensures) (n .3) q1′ (omega arith)))
-    (ap₂ amplitude (within 3 _ _ _ (re1 .from-both-sides9 .ensures) (last .if5 .taken) v0′ (omega arith))
-    (within 3 _ _ _ (im1 .from-both-sides10 .ensures) (c .before .if6 .taken) v1′ (omega arith))))
+    (ap₂ amplitude (within 2 _ _ _ (re0 .from-both-sides7 .ensures) (o .0) q0′ (omega arith))
+    (within 2 _ _ _ (im0 .from-both-sides8 .ensures) (o .1) q1′ (omega arith)))
+    (ap₂ amplitude (within 3 _ _ _ (re1 .from-both-sides9 .ensures) (o .2) v0′ (omega arith))
+    (within 3 _ _ _ (im1 .from-both-sides10 .ensures) (o .3) v1′ (omega arith))))
 
 pub u-rule-spec : {M : Type 1} → statement M
 u-rule-spec =
@@ -121,6 +124,7 @@ u-rule-spec =
     (λ c κs. let t = told (tests (c .before .before .before .before)) in (t .a .near, t .h .u))
     (λ c. search needs)
     (λ c κs. let t = told (tests (c .before .before .before .before .before)) in (t .b .near, t .h .u))
+    (λ c κs. search needs)
     (λ c κs. search needs)
     (λ c κs. search needs)
     (λ c κs. search needs)
