@@ -149,8 +149,8 @@ fn u_one_by_one(matrix: Matrix, pair: Pair) -> Pair
     Pair { s0, s1 }
 }
 
-// Ten F at once where all their sides meet, and else one by one. All ten stand before the first test whether they meet: up to a branch the compiler works out
-// two at a time. What is made of a term whose sides do not meet is thrown away. A matrix of which one number is not split has no p here.
+// Ten F in three steps, a step's F side by side: where all their sides meet on to the next, and else one by one. A matrix of which one number is not split
+// has no p here.
 pub fn u_rule(matrix: Matrix, h: Uppers, pair: Pair) -> Pair
     requires { ⌜ USplit matrix h ⌝ }
     ensures { λ r. ⌜ r ≡ uRule matrix pair ⌝ }
@@ -169,15 +169,18 @@ pub fn u_rule(matrix: Matrix, h: Uppers, pair: Pair) -> Pair
             let q1 = from_both_sides(d, matrix.entries[1].re, h.q, r * c);
             let e0 = from_both_sides(c, e, h.e, -f * d);
             let e1 = from_both_sides(d, e, h.e, f * c);
-            let v0 = from_both_sides(b, -v, h.w, e0.left);
-            let v1 = from_both_sides(a, v, h.v, e1.left);
-            let re0 = from_both_sides(a, matrix.entries[0].re, h.p, q0.left);
-            let im0 = from_both_sides(b, matrix.entries[0].re, h.p, q1.left);
-            let re1 = from_both_sides(a, matrix.entries[2].re, h.u, v0.left);
-            let im1 = from_both_sides(b, matrix.entries[2].re, h.u, v1.left);
-            let terms = all_meet(q0, q1, e0, e1) & all_meet(v0, v0, v1, v1);
-            if terms & all_meet(re0, im0, re1, im1) {
-                return lefts(re0, im0, re1, im1);
+            if all_meet(q0, q1, e0, e1) {
+                let re0 = from_both_sides(a, matrix.entries[0].re, h.p, q0.left);
+                let im0 = from_both_sides(b, matrix.entries[0].re, h.p, q1.left);
+                let v0 = from_both_sides(b, -v, h.w, e0.left);
+                let v1 = from_both_sides(a, v, h.v, e1.left);
+                if all_meet(re0, im0, v0, v1) {
+                    let re1 = from_both_sides(a, matrix.entries[2].re, h.u, v0.left);
+                    let im1 = from_both_sides(b, matrix.entries[2].re, h.u, v1.left);
+                    if all_meet(re1, re1, im1, im1) {
+                        return lefts(re0, im0, re1, im1);
+                    }
+                }
             }
         }
     }

@@ -9,7 +9,6 @@ use Rattle.exact.specs.Window.{reach}
 use Rattle.exact.specs.Steps.{Under}
 use Rattle.short.specs.Steps.{Modest, Meet}
 use Rattle.short.specs.declared.Sides.{Sides}
-use Rattle.short.proofs.Tests.{both}
 use Rattle.short.proofs.Unders.{under-more, under-neg, under-mul, under-fused}
 use Rattle.abreast.proofs.Swapped.{swapped}
 use Rattle.abreast.proofs.Terms.{Around}
@@ -51,8 +50,12 @@ module _ (j : ℕ) (x k : Float) (r : Sides) {z w : Float} (around : Around r x 
 abbrev start : tie.Then2 → tie.Start
 start t = t .before .before .before .before
 
-abbrev tests : tie.After-from-both-sides4 → tie.Then2
-tests c = c .before .before .before .before
+-- the tests before a step
+abbrev first : tie.Then3 → tie.Then2
+first c = c .before .before .before .before .before .before
+
+abbrev second : tie.Then4 → tie.Then3
+second c = c .before .before .before .before .before .before
 
 record Told (t : tie.Then2) : Type 0 where
   a : Modest binary64 (start t .args .pair .s0 .re)
@@ -68,36 +71,35 @@ told t =
 
 returns : tie.Need-returns
 returns c =
-    let all = c .before in
-    let results = all .before in
-    let im1 = results .before .before .before in
+    let third = c .before .before in
+    let im1 = third .before in
     let re1 = im1 .before in
-    let im0 = re1 .before in
-    let re0 = im0 .before in
-    let v1 = re0 .before in
+    let two = re1 .before in
+    let v1 = two .before .before in
     let v0 = v1 .before in
-    let e1 = v0 .before in
+    let im0 = v0 .before in
+    let re0 = im0 .before in
+    let one = re0 .before in
+    let e1 = one .before .before in
     let e0 = e1 .before in
     let q1 = e0 .before in
     let q0 = q1 .before in
-    let t = told (tests e1) in
+    let t = told (first one) in
     let h = t .h in
-    let met = both _ _ (all .if3 .taken) in
-    let terms = both _ _ (met .0) in
-    let m = results .before .before .all-meet .ensures (terms .0) in
-    let n = results .before .all-meet2 .ensures (terms .1) in
-    let o = results .all-meet3 .ensures (met .1) in
+    let m = one .before .all-meet .ensures (one .if3 .taken) in
+    let n = two .before .all-meet2 .ensures (two .if4 .taken) in
+    let o = third .all-meet3 .ensures (c .before .if5 .taken) in
     let q0′ = behind 1 _ _ _ (q0 .from-both-sides .ensures) (m .0) (product-neg _ _ (h .r-most) (t .d .under)) (omega arith) (t .c .under) (h .q-most) in
     let q1′ = behind 1 _ _ _ (q1 .from-both-sides2 .ensures) (m .1) (product _ _ (h .r-most) (t .c .under)) (omega arith) (t .d .under) (h .q-most) in
     let e0′ = behind 1 _ _ _ (e0 .from-both-sides3 .ensures) (m .2) (product-neg _ _ (h .f-most) (t .d .under)) (omega arith) (t .c .under) (h .e-most) in
     let e1′ = behind 1 _ _ _ (e1 .from-both-sides4 .ensures) (m .3) (product _ _ (h .f-most) (t .c .under)) (omega arith) (t .d .under) (h .e-most) in
-    let v0′ = behind 2 _ _ _ (v0 .from-both-sides5 .ensures) (n .0) e0′ (omega arith) (t .b .under) (under-neg binary64 1 _ (h .v-most)) in
-    let v1′ = behind 2 _ _ _ (v1 .from-both-sides6 .ensures) (n .2) e1′ (omega arith) (t .a .under) (h .v-most) in
+    let v0′ = behind 2 _ _ _ (v0 .from-both-sides7 .ensures) (n .2) e0′ (omega arith) (t .b .under) (under-neg binary64 1 _ (h .v-most)) in
+    let v1′ = behind 2 _ _ _ (v1 .from-both-sides8 .ensures) (n .3) e1′ (omega arith) (t .a .under) (h .v-most) in
     rw (c .lefts .ensures) (ap₂ pair
-    (ap₂ amplitude (within 2 _ _ _ (re0 .from-both-sides7 .ensures) (o .0) q0′ (omega arith))
-    (within 2 _ _ _ (im0 .from-both-sides8 .ensures) (o .1) q1′ (omega arith)))
-    (ap₂ amplitude (within 3 _ _ _ (re1 .from-both-sides9 .ensures) (o .2) v0′ (omega arith))
-    (within 3 _ _ _ (im1 .from-both-sides10 .ensures) (o .3) v1′ (omega arith))))
+    (ap₂ amplitude (within 2 _ _ _ (re0 .from-both-sides5 .ensures) (n .0) q0′ (omega arith))
+    (within 2 _ _ _ (im0 .from-both-sides6 .ensures) (n .1) q1′ (omega arith)))
+    (ap₂ amplitude (within 3 _ _ _ (re1 .from-both-sides9 .ensures) (o .0) v0′ (omega arith))
+    (within 3 _ _ _ (im1 .from-both-sides10 .ensures) (o .2) v1′ (omega arith))))
 
 pub u-rule-spec : {M : Type 1} → statement M
 u-rule-spec =
@@ -114,18 +116,18 @@ u-rule-spec =
     (λ c κs. let t = told (c .before) in (t .d .near, t .h .q))
     (λ c κs. let t = told (c .before .before) in (t .c .near, t .h .e))
     (λ c κs. let t = told (c .before .before .before) in (t .d .near, t .h .e))
-    (λ c κs. let t = told (tests c) in (t .b .near, t .h .w))
-    (λ c κs. let t = told (tests (c .before)) in (t .a .near, t .h .v))
-    (λ c. search needs)
-    (λ c κs. let t = told (tests (c .before .before)) in (t .a .near, t .h .p))
-    (λ c. search needs)
-    (λ c κs. let t = told (tests (c .before .before .before)) in (t .b .near, t .h .p))
-    (λ c. search needs)
-    (λ c κs. let t = told (tests (c .before .before .before .before)) in (t .a .near, t .h .u))
-    (λ c. search needs)
-    (λ c κs. let t = told (tests (c .before .before .before .before .before)) in (t .b .near, t .h .u))
     (λ c κs. search needs)
+    (λ c. search needs)
+    (λ c κs. let t = told (first c) in (t .a .near, t .h .p))
+    (λ c. search needs)
+    (λ c κs. let t = told (first (c .before)) in (t .b .near, t .h .p))
+    (λ c κs. let t = told (first (c .before .before)) in (t .b .near, t .h .w))
+    (λ c κs. let t = told (first (c .before .before .before)) in (t .a .near, t .h .v))
     (λ c κs. search needs)
+    (λ c. search needs)
+    (λ c κs. let t = told (first (second c)) in (t .a .near, t .h .u))
+    (λ c. search needs)
+    (λ c κs. let t = told (first (second (c .before))) in (t .b .near, t .h .u))
     (λ c κs. search needs)
     (λ c κs. search needs)
     returns
