@@ -1,4 +1,4 @@
--- The code's tests. A NaN among the operands of a sum or a product makes a NaN; and the blocks of exponents that the bits of a number begin with say whether it
+-- The code's tests. A NaN among the operands of a sum makes a NaN; and the blocks of exponents that the bits of a number begin with say whether it
 -- is in the window, and how large it is at most. Assumes nothing.
 use mathlib.Core.Path.{_≡_, refl, sym, _∙_}
 use mathlib.Core.Logic.{_⊎_, inl, inr}
@@ -6,10 +6,9 @@ use Prim.Native.Nat.{ℕ, suc, _+_, _*_, _/_, _%_, _^_, _≤_, _<_}
 use native.Mathlib.Nat.{le-of-lt, lt-of-lt-of-le, eq-zero-or-pos}
 use native.Mathlib.Omega.{arith}
 use mathlib.Core.Bool.{Bool, true, false, not, cond, _&&_, true≢false}
-use lib.IntN.{ℤ}
 use lib.Dec.{T}
 use lib.Pow.{pow-mono, shl-lt}
-use lib.Ieee.{Float, nan, inf, fin, Format, binary32, binary64, prec, emax, low, hid, top, ne, add, mul, fits, isNan, toBits}
+use lib.Ieee.{Float, nan, inf, fin, Format, binary32, binary64, prec, emax, low, hid, top, ne, add, fits, isNan, toBits}
 use lib.Ieee.Compare.{nan-differs}
 use lib.Ieee.Fits as Fits
 use lib.Ieee.Scale.{finite}
@@ -30,26 +29,17 @@ number nan h = absurd (true≢false (sym nan-differs ∙ h))
 number (inf s) h = tt
 number (fin s m e) h = tt
 
-numbers : (op : Float → Float → Float) → ((y : Float) → op nan y ≡ nan) → ((s : Bool) → op (inf s) nan ≡ nan)
-    → ((s : Bool) (m : ℕ) (e : ℤ) → op (fin s m e) nan ≡ nan) → (x y : Float) → T (not (isNan (op x y))) → T (not (isNan x)) × T (not (isNan y))
-unfolding isNan
-numbers op l i g nan nan h = absurd (rw l at h)
-numbers op l i g nan (inf t) h = absurd (rw l at h)
-numbers op l i g nan (fin t n d) h = absurd (rw l at h)
-numbers op l i g (inf s) nan h = absurd (rw i at h)
-numbers op l i g (inf s) (inf t) h = (tt, tt)
-numbers op l i g (inf s) (fin t n d) h = (tt, tt)
-numbers op l i g (fin s m e) nan h = absurd (rw g at h)
-numbers op l i g (fin s m e) (inf t) h = (tt, tt)
-numbers op l i g (fin s m e) (fin t n d) h = (tt, tt)
-
 pub sum-numbers : (f : Format) (x y : Float) → T (not (isNan (add f x y))) → T (not (isNan x)) × T (not (isNan y))
-unfolding add
-sum-numbers f = numbers (add f) (λ y. refl) (λ s. refl) (λ s m e. refl)
-
-pub product-numbers : (f : Format) (x y : Float) → T (not (isNan (mul f x y))) → T (not (isNan x)) × T (not (isNan y))
-unfolding mul
-product-numbers f = numbers (mul f) (λ y. refl) (λ s. refl) (λ s m e. refl)
+unfolding add isNan
+sum-numbers f nan nan h = absurd h
+sum-numbers f nan (inf t) h = absurd h
+sum-numbers f nan (fin t n d) h = absurd h
+sum-numbers f (inf s) nan h = absurd h
+sum-numbers f (inf s) (inf t) h = (tt, tt)
+sum-numbers f (inf s) (fin t n d) h = (tt, tt)
+sum-numbers f (fin s m e) nan h = absurd h
+sum-numbers f (fin s m e) (inf t) h = (tt, tt)
+sum-numbers f (fin s m e) (fin t n d) h = (tt, tt)
 
 -- ---- the bits without the sign, b % top, by their block
 abbrev pub apart : Format → ℕ → ℕ

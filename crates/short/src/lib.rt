@@ -9,6 +9,7 @@ ghost use mathlib.Core.Bool.{true, not};
 ghost use lib.Dec.{T};
 ghost use lib.Ieee.{binary64, isNan};
 ghost use Rattle.numbers.specs.Fused as Def;
+ghost use Rattle.operands.specs.Operands.{ordinary};
 ghost use Rattle.exact.specs.Window.{reach};
 ghost use Rattle.exact.specs.Steps.{Near, Under, Halved};
 ghost use Rattle.short.specs.Steps.{Modest, Block, Meet};
@@ -24,14 +25,11 @@ fn apart(x: f64) -> u64
     (f64::to_bits(x) / BLOCK + 5) % 8
 }
 
-// Whether the factors x and y are neither large nor small, and z is not large. A NaN among them makes a NaN.
+// Whether the factors x and y are neither large nor small, and z is not large.
 pub fn are_near(x: f64, y: f64, z: f64) -> bool
+    requires { ⌜ T (ordinary x) × T (ordinary y) × T (ordinary z) ⌝ }
     ensures { λ r. ⌜ (r ≡ true → Near binary64 x × Near binary64 y × Under binary64 (reach binary64) z) ⌝ }
 {
-    let w = x * y + z;
-    if w != w {
-        return false;
-    }
     if apart(x) >= 2 {
         return false;
     }
@@ -41,7 +39,7 @@ pub fn are_near(x: f64, y: f64, z: f64) -> bool
     (apart(z) + 3) % 8 < 5
 }
 
-// Whether k is from 2^-255 to 2 in size, and s 2 at most.
+// Whether k is from 2^-255 to 2 in size, and s 2 at most. A NaN among them makes a NaN.
 pub fn are_fit(k: f64, s: f64) -> bool
     ensures { λ r. ⌜ (r ≡ true → Near binary64 k × Under binary64 1 s) ⌝ }
 {

@@ -24,6 +24,15 @@ returns-2 c =
     c .with-one-nan2 .ensures
     ∙ special-factor binary64 (a .x) (a .y) (a .z) (inr (not-yes (c .before .before .is-ordinary2 .ensures) (c .before .if2 .taken)))
 
+are-near-requires : tie.Need-are-near-requires
+are-near-requires c κs =
+    let second = c .before .before in
+    let first = second .before .before in (
+      not-no (first .before .is-ordinary .ensures) (first .if1 .left),
+      not-no (second .before .is-ordinary2 .ensures) (second .if2 .left),
+      yes (c .before .is-ordinary3 .ensures) (c .if3 .taken),
+    )
+
 returns-3 : tie.Need-returns-3
 returns-3 c =
     let sides = c .before .before in
@@ -72,7 +81,7 @@ fused-spec =
     (λ c κs. search needs)
     returns-2
     (λ c κs. search needs)
-    (λ c κs. search needs)
+    are-near-requires
     (λ c κs. c .before .are-near .ensures (c .if4 .taken) .1)
     (λ c κs. (c .before .before .are-near .ensures (c .before .if4 .taken) .0, c .upper .ensures))
     returns-3
