@@ -3,7 +3,7 @@
 use mathlib.Core.Path.{_≡_, refl, sym, ap, ap₂, _∙_}
 use mathlib.Core.Logic.{inl}
 use Prim.Native.Nat.{ℕ, suc, _+_, _-_, _*_, _^_, _≤_, _<_, zero-le}
-use native.Mathlib.Nat.{mul-comm, mul-le-mul, mul-le-mul-right, mul-le-mul-left, mul-pos, le-trans, le-of-eq, le-of-lt}
+use native.Mathlib.Nat.{mul-comm, mul-le-mul, mul-le-mul-right, mul-le-mul-left, le-trans, le-of-eq, le-of-lt}
 use native.Mathlib.Nat.{lt-of-le-of-lt, lt-of-lt-of-le, mod-lt, le-of-mul-le-mul-right, mul-lt-mul-of-pos-right, pow-succ'}
 use native.Mathlib.Omega.{arith}
 use mathlib.Core.Bool.{Bool, true, false, Bool·beq}

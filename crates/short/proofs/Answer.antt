@@ -11,8 +11,8 @@ use mathlib.Core.Bool.{Bool, true, false, cond, Bool·beq}
 use lib.IntN.{pos}
 use lib.Dec.{T, lit≤}
 use lib.Pow.{pow-add, pow-pos, pow-mono}
-use lib.Ieee.{Float, fin, Format, binary32, binary64, prec, emax, low, unlike, round, sum, eq, add, sub, mul, fits, ofBits}
-use lib.Ieee.Fits.{round-fits, add-fits, sub-fits, mul-fits}
+use lib.Ieee.{Float, fin, Format, binary32, binary64, prec, emax, low, unlike, sum, eq, add, sub, mul, fits, ofBits}
+use lib.Ieee.Fits.{round-fits, add-fits, mul-fits}
 use lib.Ieee.Exact.{HasValue}
 use Rattle.numbers.specs.Fused.{fused}
 use Rattle.numbers.proofs.Grid.{dist}
@@ -37,7 +37,7 @@ own-gap : (s : Bool) (n : ℕ) → Differ (Bool·beq s s) n n 0
 own-gap true n = omega arith
 own-gap false n = omega arith
 
-signed : (z : Bool) (n : ℕ) → Differ z n (cond z n 0) (cond z 0 n) × (cond z n 0 + cond z 0 n ≡ n)
+signed : (z : Bool) (n : ℕ) → Differ z n (cond z n 0) (cond z 0 n) × (dist (cond z n 0) (cond z 0 n) ≡ n)
 signed true n = omega arith
 signed false n = omega arith
 
@@ -55,29 +55,25 @@ hair-fits : (f : Format) → (low f ≤ widest f + 3) × (widest f + 3 + 1 ≤ l
 hair-fits binary32 = (lit≤ tt, lit≤ tt)
 hair-fits binary64 = (lit≤ tt, lit≤ tt)
 
-sizes : (n g z₊ z₋ B w : ℕ) → B * 2 ^ 3 ≡ w → n < B → Within (dist n 0) n 0 g 0 → z₊ + z₋ ≤ B
+-- ---- how large the steps are
+sizes : (n g z₊ z₋ B w : ℕ) → B * 2 ^ 3 ≡ w → n < B → Within (dist n 0) n 0 g 0 → dist z₊ z₋ ≤ B
     → Within w n 0 0 0 × Within w g 0 0 0 × Within w z₊ z₋ 0 0 × Within w (g + z₊) (0 + z₋) 0 0 × Within w n g 0 0
 sizes n g z₊ z₋ B w e a b c = omega arith
 
-rest-sizes : (n g z₊ z₋ s₊ s₋ B w : ℕ) → B * 2 ^ 3 ≡ w → n < B → Within (dist n 0) n 0 g 0 → z₊ + z₋ ≤ B
+rest-sizes : (n g z₊ z₋ s₊ s₋ B w : ℕ) → B * 2 ^ 3 ≡ w → n < B → Within (dist n 0) n 0 g 0 → Within B z₊ z₋ 0 0
     → Within (dist (g + z₊) (0 + z₋)) (g + z₊) (0 + z₋) s₊ s₋
     → Within w (g + z₊ + s₋) (0 + z₋ + s₊) 0 0 × Within w (g + z₊ + s₋ + n) (0 + z₋ + s₊ + g) 0 0
 rest-sizes n g z₊ z₋ s₊ s₋ B w e a b c h = omega arith
 
-doubled : (w a b c d : ℕ) → Within w a b 0 0 → Within (dist a b) a b c d → Within (2 * w) c d 0 0
+within : (w a b : ℕ) → dist a b ≤ w → Within w a b 0 0
+within w a b h = omega arith
+
+-- what is rounded comes to twice as much at most
+doubled : (w a b c d : ℕ) → Within w a b 0 0 → Within (dist a b) a b c d → dist c d ≤ 2 * w
 doubled w a b c d h l = omega arith
 
-within-size : (w a b : ℕ) → Within w a b 0 0 → dist a b ≤ w
-within-size w a b h = omega arith
-
-within-dist : (w a b : ℕ) → dist a b ≤ w → Within w a b 0 0
-within-dist w a b h = omega arith
-
-within-sum : (w a b : ℕ) → a + b ≤ w → Within w a b 0 0
-within-sum w a b h = omega arith
-
-turned : (w a b : ℕ) → Within w a b 0 0 → Within w b a 0 0
-turned w a b h = omega arith
+turned : (a b : ℕ) → dist a b ≡ dist b a
+turned a b = omega arith
 
 module _ (f : Format) (x y z e : Float) (E : Multiplied f x y e) (Z : Under f (reach f) z) (fits-z : T (fits f z)) where
   abbrev s : Float
@@ -110,7 +106,7 @@ module _ (f : Format) (x y z e : Float) (E : Multiplied f x y e) (Z : Under f (r
   is-z : Is f z σ z₊ z₋
   is-z = record { sgn = Z .sgn; mag = Z .n; has = Z .has; gap = gap-z }
 
-  size-z : z₊ + z₋ ≤ 2 ^ widest f
+  size-z : dist z₊ z₋ ≤ 2 ^ widest f
   size-z = le-trans (le-of-eq (signed (Bool·beq (Z .sgn) σ) (Z .n) .1)) (le-trans (Z .most) (pow-mono (term-fits f)))
 
   abbrev M : ℕ
@@ -134,8 +130,8 @@ module _ (f : Format) (x y z e : Float) (E : Multiplied f x y e) (Z : Under f (r
 
   small-rest : Within (2 ^ M) (g + z₊ + one .s₋) (0 + z₋ + one .s₊) 0 0 × Within (2 ^ M) X Y 0 0
   small-rest =
-      rest-sizes n g z₊ z₋ (one .s₊) (one .s₋) (2 ^ widest f) (2 ^ M) (sym (pow-add 2 (widest f) 3)) (E .most) (lost-le f n 0 g 0 (E .near)) size-z
-      (lost-le f (g + z₊) (0 + z₋) (one .s₊) (one .s₋) (one .near))
+      rest-sizes n g z₊ z₋ (one .s₊) (one .s₋) (2 ^ widest f) (2 ^ M) (sym (pow-add 2 (widest f) 3)) (E .most) (lost-le f n 0 g 0 (E .near))
+      (within (2 ^ widest f) z₊ z₋ size-z) (lost-le f (g + z₊) (0 + z₋) (one .s₊) (one .s₋) (one .near))
 
   abbrev s₊ : ℕ
   s₊ = one .s₊
@@ -155,9 +151,15 @@ module _ (f : Format) (x y z e : Float) (E : Multiplied f x y e) (Z : Under f (r
   wide : 2 ^ (M + 4) ≡ 16 * 2 ^ M
   wide = pow-add 2 M 4 ∙ omega arith
 
-  -- how large s is
-  size-s : Within (2 * 2 ^ M) s₊ s₋ 0 0
-  size-s = let l = lost-le f (g + z₊) (0 + z₋) s₊ s₋ (one .near) in doubled (2 ^ M) (g + z₊) (0 + z₋) s₊ s₋ (small .3) l
+  -- no s, v or hair is larger than D
+  abbrev D : ℕ
+  D = 2 * 2 ^ M
+
+  size-s : dist s₊ s₋ ≤ D
+  size-s = doubled (2 ^ M) (g + z₊) (0 + z₋) s₊ s₋ (small .3) (lost-le f (g + z₊) (0 + z₋) s₊ s₋ (one .near))
+
+  within-s : Within D s₊ s₋ 0 0
+  within-s = within D s₊ s₋ size-s
 
   -- s and X - Y together are F's count
   whole : Sum f (fused f x y z) σ (s₊ + X) (s₋ + Y)
@@ -166,7 +168,7 @@ module _ (f : Format) (x y z e : Float) (E : Multiplied f x y e) (Z : Under f (r
       let R : Rounds f (fused f x y z) σ (s₊ + X) (s₋ + Y) = again-rounds r (omega arith) in
       record {
         rounds = R;
-        kept = kept (M + 4) R (rw wide (omega (arith, size-s, small-rest .1))) (steps-fit f);
+        kept = kept (M + 4) R (rw wide (omega (arith, within-s, small-rest .1))) (steps-fit f);
         holds = rw (R .is) (round-fits f (R .sgn) (R .mag) (2 ^ low f));
         zero = λ q. fused-is ∙ cancel f σ σ (Z .sgn) n (Z .n) n 0 z₊ z₋ (own-gap σ n) gap-z (omega arith) (inl some);
       }
@@ -193,12 +195,12 @@ module _ (f : Format) (x y z e : Float) (E : Multiplied f x y e) (Z : Under f (r
           (nothing f (g + z₊) (0 + z₋) s₊ s₋ (one .near) (mag-is S ∙ e)) (inl some-p)
 
   -- s and another number
-  with-s : (a : Float) (c d : ℕ) → Is f a σ c d → Within (2 * (4 * 2 ^ M)) c d 0 0 → Sum f (add f s a) σ (s₊ + c) (s₋ + d)
-  with-s a c d A w =
+  with-s : (a : Float) (c d : ℕ) → Is f a σ c d → dist c d ≤ 2 * (2 * D) → Sum f (add f s a) σ (s₊ + c) (s₋ + d)
+  with-s a c d A l =
       let R = add-rounds S A in
       record {
         rounds = R;
-        kept = kept (M + 4) R (rw wide (omega (arith, size-s))) (steps-fit f);
+        kept = kept (M + 4) R (rw wide (omega (arith, within-s, within (2 * (2 * D)) c d l))) (steps-fit f);
         holds = add-fits f s a;
         zero = λ q. add-at f s a (S .sgn) (A .sgn) (S .mag) (A .mag) (2 ^ low f) (pow-pos (low f)) (S .has) (A .has)
             ∙ cancel f σ (S .sgn) (A .sgn) (S .mag) (A .mag) s₊ s₋ c d (S .gap) (A .gap) q first-term;
@@ -214,14 +216,16 @@ module _ (f : Format) (x y z e : Float) (E : Multiplied f x y e) (Z : Under f (r
   abbrev v₋ : ℕ
   v₋ = kept-v .d
 
-  size-v : Within (2 * 2 ^ M) v₊ v₋ 0 0
-  size-v = doubled (2 ^ M) X Y v₊ v₋ (small-rest .1) (lost-le f X Y v₊ v₋ (kept-v .near))
+  -- v and what is no larger than D
+  aside : (c d : ℕ) → dist c d ≤ D → Within (2 * D) (v₊ + c) (v₋ + d) 0 0
+  aside c d l =
+      let v = within D v₊ v₋ (doubled (2 ^ M) X Y v₊ v₋ (small-rest .1) (lost-le f X Y v₊ v₋ (kept-v .near))) in
+      omega (arith, v, within D c d l)
 
-  -- v and what is no larger than twice 2 ^ M
-  aside : (c d : ℕ) → Within (2 * 2 ^ M) c d 0 0 → Within (2 ^ (M + 4)) (v₊ + c) (v₋ + d) 0 0
-  aside c d w = rw wide (omega (arith, size-v))
+  room : (c d : ℕ) → dist c d ≤ D → Within (2 ^ (M + 4)) (v₊ + c) (v₋ + d) 0 0
+  room c d l = let w = aside c d l in rw wide (omega arith)
 
-  once : 2 ^ (low f + (M + 1 - low f)) ≡ 2 * 2 ^ M
+  once : 2 ^ (low f + (M + 1 - low f)) ≡ D
   once = ap (λ (k : ℕ). 2 ^ k) (omega (arith, hair-fits f)) ∙ pow-succ' 2 M
 
   -- ---- a hair of s
@@ -235,7 +239,7 @@ module _ (f : Format) (x y z e : Float) (E : Multiplied f x y e) (Z : Under f (r
         m₊ : ℕ
         m₋ : ℕ
         is : Is f m σ m₊ m₋
-        most : Within (2 * 2 ^ M) m₊ m₋ 0 0
+        most : dist m₊ m₋ ≤ D
         forth : (c d : ℕ) → Nearest f (v₊ + m₊) (v₋ + m₋) c d → Beyond X Y m₊ m₋ c d
         back : (c d : ℕ) → Nearest f (v₊ + m₋) (v₋ + m₊) c d → Beyond X Y m₋ m₊ c d
 
@@ -244,9 +248,14 @@ module _ (f : Format) (x y z e : Float) (E : Multiplied f x y e) (Z : Under f (r
       hair-of-s = under-mul f (M + 1 - low f) 0 s (ofBits f bits) (omega (arith, hair-fits f)) large (hair-under f bits fine)
         where
           large : Under f (M + 1 - low f) s
-          large = record { sgn = S .sgn; n = S .mag; has = S .has; most = le-trans (le-of-eq (sym (mag-is S))) (le-trans (within-size (2 * 2 ^ M) s₊ s₋ size-s) (le-of-eq (sym once))) }
+          large = record {
+            sgn = S .sgn;
+            n = S .mag;
+            has = S .has;
+            most = le-trans (le-of-eq (sym (mag-is S))) (le-trans size-s (le-of-eq (sym once)));
+          }
 
-      hair-most : hair-of-s .n ≤ 2 * 2 ^ M
+      hair-most : hair-of-s .n ≤ D
       hair-most = le-trans (hair-of-s .most) (le-of-eq (ap (λ (k : ℕ). 2 ^ (low f + k)) (add-zero (M + 1 - low f)) ∙ once))
 
       step-exact : X + v₋ ≡ Y + v₊ → Step
@@ -258,7 +267,7 @@ module _ (f : Format) (x y z e : Float) (E : Multiplied f x y e) (Z : Under f (r
             m₊ = cond b (u .n) 0;
             m₋ = cond b 0 (u .n);
             is = record { sgn = u .sgn; mag = u .n; has = u .has; gap = signed b (u .n) .0 };
-            most = within-sum (2 * 2 ^ M) (cond b (u .n) 0) (cond b 0 (u .n)) (le-trans (le-of-eq (signed b (u .n) .1)) hair-most);
+            most = le-trans (le-of-eq (signed b (u .n) .1)) hair-most;
             forth = λ c d. from-exact f X Y v₊ v₋ (cond b (u .n) 0) (cond b 0 (u .n)) c d held-v h;
             back = λ c d. from-exact f X Y v₊ v₋ (cond b 0 (u .n)) (cond b (u .n) 0) c d held-v h;
           }
@@ -280,28 +289,30 @@ module _ (f : Format) (x y z e : Float) (E : Multiplied f x y e) (Z : Under f (r
             large : (k : ℕ) → n ≤ 8 * k → 2 ^ (prec f + cut f bits) ≤ k
             large k h = omega (arith, E .least, many-zeros f bits fine)
 
-        small-hair : dist (H .m₊) (H .m₋) ≤ 2 * 2 ^ M
-        small-hair = le-trans (le-of-eq (sym (mul-one (dist (H .m₊) (H .m₋))))) (le-trans (mul-le-mul-left (dist (H .m₊) (H .m₋)) (pow-pos (cut f bits)))
-            (le-trans (le-of-eq (H .size)) (within-size (2 * 2 ^ M) s₊ s₋ size-s)))
+        -- its size
+        abbrev k : ℕ
+        k = dist (H .m₊) (H .m₋)
 
-        beyond : (n₊ n₋ c d : ℕ) → dist n₊ n₋ ≡ dist (H .m₊) (H .m₋) → Nearest f (v₊ + n₊) (v₋ + n₋) c d → Beyond X Y n₊ n₋ c d
-        beyond n₊ n₋ c d same N = from-far (2 ^ (prec f - 1)) X Y v₊ v₋ n₊ n₋ c d (dist s₊ s₋) (enough f)
+        small-hair : k ≤ D
+        small-hair = le-trans (le-of-eq (sym (mul-one k))) (le-trans (mul-le-mul-left k (pow-pos (cut f bits))) (le-trans (le-of-eq (H .size)) size-s))
+
+        beyond : (n₊ n₋ c d : ℕ) → dist n₊ n₋ ≡ k → Nearest f (v₊ + n₊) (v₋ + n₋) c d → Beyond X Y n₊ n₋ c d
+        beyond n₊ n₋ c d same N =
+            let w = room n₊ n₋ (le-trans (le-of-eq same) small-hair) in
+            from-far (2 ^ (prec f - 1)) X Y v₊ v₋ n₊ n₋ c d (dist s₊ s₋) (enough f)
             (relative f M (omega (arith, steps-fit f)) X Y v₊ v₋ (small-rest .1) (kept-v .near)) (far-off .rest)
-            (relative f (M + 4) (omega (arith, steps-fit f)) (v₊ + n₊) (v₋ + n₋) c d (aside n₊ n₋ (within-dist (2 * 2 ^ M) n₊ n₋ (le-trans (le-of-eq same) small-hair))) N)
-            (rw (same, ← H .size, mul-left-comm 64 (dist (H .m₊) (H .m₋)) (2 ^ cut f bits)) (mul-le-mul-left (dist (H .m₊) (H .m₋)) (square f bits fine)))
+            (relative f (M + 4) (omega (arith, steps-fit f)) (v₊ + n₊) (v₋ + n₋) c d w N)
+            (rw (same, ← H .size, mul-left-comm 64 k (2 ^ cut f bits)) (mul-le-mul-left k (square f bits fine)))
 
         step-far : Step
         step-far = record {
           m₊ = H .m₊;
           m₋ = H .m₋;
           is = H .is;
-          most = within-dist (2 * 2 ^ M) (H .m₊) (H .m₋) small-hair;
+          most = small-hair;
           forth = λ c d. beyond (H .m₊) (H .m₋) c d refl;
           back = λ c d. beyond (H .m₋) (H .m₊) c d (turned (H .m₋) (H .m₊));
         }
-          where
-            turned : (a b : ℕ) → dist a b ≡ dist b a
-            turned a b = omega arith
 
       step : Step
       step = elim (decLe (X + v₋) (Y + v₊)) [
@@ -310,14 +321,17 @@ module _ (f : Format) (x y z e : Float) (E : Multiplied f x y e) (Z : Under f (r
       ]
 
       -- ---- both sides
+      back-most : dist (step .m₋) (step .m₊) ≤ D
+      back-most = le-trans (le-of-eq (turned (step .m₋) (step .m₊))) (step .most)
+
       lower : Kept f (sub f v m) σ (v₊ + step .m₋) (v₋ + step .m₊)
-      lower = kept (M + 4) (sub-rounds (kept-v .is) (step .is)) (aside (step .m₋) (step .m₊) (turned (2 * 2 ^ M) (step .m₊) (step .m₋) (step .most))) (steps-fit f)
+      lower = kept (M + 4) (sub-rounds (kept-v .is) (step .is)) (room (step .m₋) (step .m₊) back-most) (steps-fit f)
 
       upper : Kept f (add f v m) σ (v₊ + step .m₊) (v₋ + step .m₋)
-      upper = kept (M + 4) (add-rounds (kept-v .is) (step .is)) (aside (step .m₊) (step .m₋) (step .most)) (steps-fit f)
+      upper = kept (M + 4) (add-rounds (kept-v .is) (step .is)) (room (step .m₊) (step .m₋) (step .most)) (steps-fit f)
 
-      sized : (c d a b : ℕ) → Within (2 * 2 ^ M) c d 0 0 → Nearest f (v₊ + c) (v₋ + d) a b → Within (2 * (4 * 2 ^ M)) a b 0 0
-      sized c d a b w N = doubled (4 * 2 ^ M) (v₊ + c) (v₋ + d) a b (omega (arith, size-v)) (lost-le f (v₊ + c) (v₋ + d) a b N)
+      sized : (c d a b : ℕ) → dist c d ≤ D → Nearest f (v₊ + c) (v₋ + d) a b → dist a b ≤ 2 * (2 * D)
+      sized c d a b l N = doubled (2 * D) (v₊ + c) (v₋ + d) a b (aside c d l) (lost-le f (v₊ + c) (v₋ + d) a b N)
 
       between : Between (s₊ + lower .c) (s₋ + lower .d) (s₊ + X) (s₋ + Y) (s₊ + upper .c) (s₋ + upper .d)
       between =
@@ -329,8 +343,10 @@ module _ (f : Format) (x y z e : Float) (E : Multiplied f x y e) (Z : Under f (r
           ]
 
       between-sums : eq (add f s (sub f v m)) (add f s (add f v m)) ≡ true → add f s (sub f v m) ≡ fused f x y z
-      between-sums h =
-          squeeze (with-s (sub f v m) (lower .c) (lower .d) (lower .is) (sized (step .m₋) (step .m₊) (lower .c) (lower .d) (turned (2 * 2 ^ M) (step .m₊) (step .m₋) (step .most)) (lower .near))) whole (with-s (add f v m) (upper .c) (upper .d) (upper .is) (sized (step .m₊) (step .m₋) (upper .c) (upper .d) (step .most) (upper .near))) between h
+      between-sums =
+          let l = with-s (sub f v m) (lower .c) (lower .d) (lower .is) (sized (step .m₋) (step .m₊) (lower .c) (lower .d) back-most (lower .near)) in
+          let u = with-s (add f v m) (upper .c) (upper .d) (upper .is) (sized (step .m₊) (step .m₋) (upper .c) (upper .d) (step .most) (upper .near)) in
+          squeeze l whole u between
 
     pub answer : eq (add f s (sub f v m)) (add f s (add f v m)) ≡ true → Fine f bits → add f s (sub f v m) ≡ fused f x y z
     answer h fine = between-sums fine h

@@ -1,7 +1,7 @@
 -- A step aside. X - Y is rounded to v₊ - v₋; from there a step of n₊ - n₋ is taken, and rounded to c₊ - c₋. Where v is exact, or the step is large beside
 -- what roundings lose, c lies beyond X - Y on the step's side. Assumes nothing.
 use mathlib.Core.Path.{_≡_}
-use Prim.Native.Nat.{ℕ, _+_, _*_, _^_, _≤_, _<_}
+use Prim.Native.Nat.{ℕ, _+_, _*_, _≤_, _<_}
 use native.Mathlib.Nat.{mul-le-mul-left, mul-le-mul-right, mul-pos, le-of-mul-le-mul-right, le-trans, le-refl, add-le-add}
 use native.Mathlib.Omega.{arith}
 use lib.Ieee.{Format}

@@ -10,7 +10,6 @@ use mathlib.Core.Bool.{Bool, Bool·beq}
 use lib.Dec.{T, lit≤}
 use lib.Pow.{pow-add, pow-pos, pow-lt}
 use lib.Ieee.{Float, Format, binary32, binary64, prec, emax, low, fits}
-use lib.Ieee.Scale.{overflow}
 use Rattle.numbers.proofs.Grid.{dist}
 use Rattle.numbers.proofs.Counts.{counted, finite-of}
 use Rattle.exact.specs.Signed.{Is, Rounds, Held, Within, Nearest}

@@ -92,7 +92,8 @@ module _ (f : Format) (bits : ℕ) (fine : Fine f bits) (x : Float) (s : Bool) (
 
   enough : cut f bits ≤ H .zeros
   enough =
-      let h = le-trans large (le-trans (le-of-eq size-s) (le-trans (mul-le-mul-right (2 ^ H .zeros) (H .few)) (le-of-eq (sym (pow-add 2 (prec f) (H .zeros)))))) in
+      let few = le-trans (mul-le-mul-right (2 ^ H .zeros) (H .few)) (le-of-eq (sym (pow-add 2 (prec f) (H .zeros)))) in
+      let h = le-trans large (le-trans (le-of-eq size-s) few) in
       let l = pow-lt-back (prec f + cut f bits) (suc (prec f + H .zeros)) (lt-of-le-of-lt h (pow-lt (le-refl (suc (prec f + H .zeros))))) in
       omega arith
 

@@ -10,7 +10,10 @@ pub mod Closest
 pub mod Far
 -- two sums of one signed count
 pub mod OneSum
+-- what lies between two sums that are one number
 pub mod Squeeze
+-- a small part of s, and a step of it from v to either side
 pub mod Hair
 pub mod Aside
+-- the answer
 pub mod Answer

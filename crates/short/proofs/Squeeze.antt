@@ -9,7 +9,6 @@ use native.Mathlib.Omega.{arith}
 use mathlib.Core.Bool.{Bool, true, false, _&&_, _||_, Bool·beq, true≢false}
 use lib.Dec.{T, eqb, eqb→eq}
 use lib.IntN.{pos}
-use lib.Pow.{pow-pos}
 use lib.Ieee.{Float, nan, inf, fin, Format, low, up, down, eq, ne, fits}
 use lib.Ieee.Exact.{HasValue}
 use lib.Ieee.Fits.{down-pos}
@@ -49,7 +48,7 @@ module _ (s t : Bool) (n m L : ℕ) where
       go false true false g i h = absurd (true≢false (sym h))
       go false false z g i h = absurd (true≢false (sym h))
 
--- one difference
+-- one sign and size, one difference
 level : (z y : Bool) (n m a b c d : ℕ) → Differ z n a b → Differ y m c d → n ≡ m → (z ≡ y) ⊎ (n ≡ 0) → a + d ≡ b + c
 level true true n m a b c d h l e o = omega arith
 level false false n m a b c d h l e o = omega arith
@@ -58,29 +57,40 @@ level true false n m a b c d h l e (inr o) = omega arith
 level false true n m a b c d h l e (inl o) = absurd (true≢false (sym o))
 level false true n m a b c d h l e (inr o) = omega arith
 
-pub equal-counts : {f : Format} {x y : Float} {s : Bool} {a b c d : ℕ} → Is f x s a b → Is f y s c d → eq x y ≡ true → a + d ≡ b + c
-equal-counts {f} {x} {y} {s} {a} {b} {c} {d} X Y h =
-    level (Bool·beq (X .sgn) s) (Bool·beq (Y .sgn) s) (X .mag) (Y .mag) a b c d (X .gap) (Y .gap)
-    (one-count (X .sgn) (Y .sgn) (X .mag) (Y .mag) (2 ^ low f) x y (X .has) (Y .has) h)
-    (elim (one-sign (X .sgn) (Y .sgn) (X .mag) (Y .mag) (2 ^ low f) x y (X .has) (Y .has) h) [
-      | inl e ↦ inl (ap (λ (u : Bool). Bool·beq u s) e)
-      | inr z ↦ inr z
-    ])
+module _ {f : Format} {x y : Float} {s : Bool} {a b c d : ℕ} (X : Is f x s a b) (Y : Is f y s c d) where
+  pub equal-counts : eq x y ≡ true → a + d ≡ b + c
+  equal-counts h =
+      level (Bool·beq (X .sgn) s) (Bool·beq (Y .sgn) s) (X .mag) (Y .mag) a b c d (X .gap) (Y .gap)
+      (one-count (X .sgn) (Y .sgn) (X .mag) (Y .mag) (2 ^ low f) x y (X .has) (Y .has) h)
+      (elim (one-sign (X .sgn) (Y .sgn) (X .mag) (Y .mag) (2 ^ low f) x y (X .has) (Y .has) h) [
+        | inl e ↦ inl (ap (λ (u : Bool). Bool·beq u s) e)
+        | inr z ↦ inr z
+      ])
 
--- ... and one sign and size, if it is something
-unlevel : (z y : Bool) (n m a b c d : ℕ) → Differ z n a b → Differ y m c d → a + d ≡ b + c → 0 < n → (z ≡ y) × (n ≡ m)
-unlevel true true n m a b c d h l e o = (refl, omega arith)
-unlevel false false n m a b c d h l e o = (refl, omega arith)
-unlevel true false n m a b c d h l e o = absurd (omega arith)
-unlevel false true n m a b c d h l e o = absurd (omega arith)
+  -- ... and back, if it is something
+  one-float : a + d ≡ b + c → 0 < X .mag → (X .sgn ≡ Y .sgn) × (X .mag ≡ Y .mag)
+  one-float e l =
+      let u = go (Bool·beq (X .sgn) s) (Bool·beq (Y .sgn) s) (X .mag) (Y .mag) (X .gap) (Y .gap) l in
+      (beq-back (X .sgn) (Y .sgn) s (u .0), u .1)
+    where
+      go : (z y : Bool) (n m : ℕ) → Differ z n a b → Differ y m c d → 0 < n → (z ≡ y) × (n ≡ m)
+      go true true n m h l o = (refl, omega arith)
+      go false false n m h l o = (refl, omega arith)
+      go true false n m h l o = absurd (omega arith)
+      go false true n m h l o = absurd (omega arith)
 
-beq-back : (u v s : Bool) → Bool·beq u s ≡ Bool·beq v s → u ≡ v
-beq-back true true s e = refl
-beq-back false false s e = refl
-beq-back true false true e = e
-beq-back true false false e = sym e
-beq-back false true true e = e
-beq-back false true false e = sym e
+      beq-back : (u v s : Bool) → Bool·beq u s ≡ Bool·beq v s → u ≡ v
+      beq-back true true s e = refl
+      beq-back false false s e = refl
+      beq-back true false true e = e
+      beq-back true false false e = sym e
+      beq-back false true true e = e
+      beq-back false true false e = sym e
+
+one-difference : {f : Format} {x : Float} {s : Bool} {a b c d : ℕ} → Is f x s a b → Is f x s c d → a + d ≡ b + c
+one-difference {f} {x} {s} {a} {b} {c} {d} X Y =
+    let o = one-value x (X .sgn) (Y .sgn) (X .mag) (Y .mag) (2 ^ low f) (X .has) (Y .has) in
+    level (Bool·beq (X .sgn) s) (Bool·beq (Y .sgn) s) (X .mag) (Y .mag) a b c d (X .gap) (Y .gap) (o .1) (inl (ap (λ (u : Bool). Bool·beq u s) (o .0)))
 
 -- ---- a - b rounded once, to x
 pub record Sum (f : Format) (x : Float) (s : Bool) (a b : ℕ) : Type 0 where
@@ -96,10 +106,10 @@ module _ {f : Format} {x y : Float} {s : Bool} {a b c d : ℕ} (X : Sum f x s a 
     | inl z ↦ X .zero (nothing f a b (X .kept .c) (X .kept .d) (X .kept .near) (mag-is I ∙ z))
         ∙ sym (Y .zero (nothing f c d (Y .kept .c) (Y .kept .d) (Y .kept .near) (omega (arith, mag-is I))))
     | inr l ↦
-        let u = unlevel (Bool·beq (I .sgn) s) (Bool·beq (J .sgn) s) (I .mag) (J .mag) (X .kept .c) (X .kept .d) (Y .kept .c) (Y .kept .d) (I .gap) (J .gap) e l in
+        let u = one-float I J e l in
         same-value f x y (I .sgn) (I .mag) (X .holds, finite-of x (I .sgn) (I .mag) (2 ^ low f) (I .has))
         (Y .holds, finite-of y (J .sgn) (J .mag) (2 ^ low f) (J .has)) (I .has)
-        (by-names (I .sgn) (J .sgn) (I .mag) (J .mag) (beq-back (I .sgn) (J .sgn) s (u .0)) (u .1) (J .has))
+        (by-names (I .sgn) (J .sgn) (I .mag) (J .mag) (u .0) (u .1) (J .has))
   ]
     where
       by-names : (u v : Bool) (n m : ℕ) → u ≡ v → n ≡ m → HasValue y v m (2 ^ low f) → HasValue y u n (2 ^ low f)
@@ -113,14 +123,10 @@ module _ {f : Format} {x y : Float} {s : Bool} {a b c d : ℕ} (X : Sum f x s a 
 
   weakly : a + d ≤ b + c → X .kept .c + Y .kept .d ≤ X .kept .d + Y .kept .c
   weakly l = elim (decLt (a + d) (b + c)) [
-    | yes g ↦ in-order f a b (X .kept .c) (X .kept .d) c d (Y .kept .c) (Y .kept .d) (X .kept .near) (held-x) (Y .kept .near) (held-y) g
+    | yes g ↦ in-order f a b (X .kept .c) (X .kept .d) c d (Y .kept .c) (Y .kept .d) (X .kept .near) held-x (Y .kept .near) held-y g
     | no g ↦
         let e : x ≡ y = one-round f x y s a b c d (X .rounds) (Y .rounds) (omega arith) (λ z. X .zero z ∙ sym (Y .zero (omega arith))) in
-        let I = X .kept .is in
-        let J = Y .kept .is in
-        let o = one-value y (I .sgn) (J .sgn) (I .mag) (J .mag) (2 ^ low f) (subst (λ (r : Float). HasValue r (I .sgn) (I .mag) (2 ^ low f)) e (I .has)) (J .has) in
-        le-of-eq (level (Bool·beq (I .sgn) s) (Bool·beq (J .sgn) s) (I .mag) (J .mag) (X .kept .c) (X .kept .d) (Y .kept .c) (Y .kept .d) (I .gap) (J .gap) (o .1)
-        (inl (ap (λ (u : Bool). Bool·beq u s) (o .0))))
+        le-of-eq (one-difference (subst (λ (r : Float). Is f r s (X .kept .c) (X .kept .d)) e (X .kept .is)) (Y .kept .is))
   ]
     where
       held-x : Held f (X .kept .c) (X .kept .d)
