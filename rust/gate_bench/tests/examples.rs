@@ -292,13 +292,20 @@ fn u_rule(g: Angles, [[a, b], [c, d]]: Pair) -> Pair {
     [s0, [fused(u, a, fused(-v, b, fused(e, c, -f * d))), fused(u, b, fused(v, a, fused(e, d, f * c)))]]
 }
 
-/// P, RZ and U work two places or pairs out side by side where every number is near 1: one number that is not changes nothing beside it.
+/// P, RZ and U work several F out side by side where every number is near 1, and take them where their sides meet: one number that is not near 1, or that
+/// makes a tie (1 with the last angle, beside a number from a quarter to a half), changes nothing beside it.
 #[test]
 fn side_by_side() {
-    let odd = [0.0, -0.0, f64::NAN, f64::INFINITY, -f64::INFINITY, 2f64.powi(-300), -2f64.powi(300), f64::from_bits(1), f64::MAX, 2.0, -2f64.powi(-255)];
+    let odd = [0.0, -0.0, f64::NAN, f64::INFINITY, -f64::INFINITY, 2f64.powi(-300), -2f64.powi(300), f64::from_bits(1), f64::MAX, 1.0, 2.0, -2f64.powi(-255)];
     let angle = |k: f64| Angle { cosine: k.cos(), sine: k.sin() };
     let angles = |ct: f64, st: f64| Angles { ct, st, cl: 0.8, sl: 0.6, cpl: 0.96, spl: -0.28, cp: -0.6, sp: 0.8 };
-    let fixed = [(angle(0.7), angles(0.96, 0.28)), (angle(0.0), angles(1.0, 0.0)), (Angle { cosine: 1e300, sine: 3.0 }, angles(-3.0, 1e-300))];
+    let tie = 2f64.powi(-55);
+    let fixed = [
+        (angle(0.7), angles(0.96, 0.28)),
+        (angle(0.0), angles(1.0, 0.0)),
+        (Angle { cosine: 1e300, sine: 3.0 }, angles(-3.0, 1e-300)),
+        (Angle { cosine: 1.0, sine: tie }, angles(1.0, tie)),
+    ];
     for (target, ones, at) in (0..3).flat_map(|t| [0, 1, 2, 4].map(move |ones| (t, ones))).flat_map(|(t, ones)| (0..16).map(move |at| (t, ones, at))) {
         if ones >> target & 1 == 1 {
             continue;
