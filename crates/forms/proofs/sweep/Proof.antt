@@ -1,12 +1,12 @@
--- `sweeps::sweep` meets its contract: one pair, read and written, or the runs. Assumes nothing.
+-- `forms::sweep` meets its contract: one pair, read and written, or the runs. Assumes nothing.
 use native.Mathlib.Omega.{arith}
 use borrow.Author.Needs.{needs}
 use Rattle.rules.specs.Rules.{quickOf}
 use Rattle.pairs.proofs.Buffers.{stepped}
 use Rattle.pairs.proofs.Keys.{size-is}
-use Rattle.sweeps.proofs.Single.{single-asks, single-swept}
-use Rattle.sweeps.proofs.sweep.Statement.{statement}
-use Rattle.sweeps.proofs.sweep.Tie as tie
+use Rattle.forms.proofs.Single.{single-asks, single-swept}
+use Rattle.forms.proofs.sweep.Statement.{statement}
+use Rattle.forms.proofs.sweep.Tie as tie
 
 returns : tie.Need-returns
 returns c =

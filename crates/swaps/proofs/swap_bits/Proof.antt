@@ -1,8 +1,8 @@
--- `sweeps::swap_bits` meets its contract: SWAP does not mind the order of its qubits. Assumes nothing.
+-- `swaps::swap_bits` meets its contract: SWAP does not mind the order of its qubits. Assumes nothing.
 use borrow.Author.Needs.{needs}
 use Rattle.pairs.proofs.Swap.{swap-either}
-use Rattle.sweeps.proofs.swap_bits.Statement.{statement}
-use Rattle.sweeps.proofs.swap_bits.Tie as tie
+use Rattle.swaps.proofs.swap_bits.Statement.{statement}
+use Rattle.swaps.proofs.swap_bits.Tie as tie
 
 pub swap-bits-spec : {M : Type 1} → statement M
 swap-bits-spec =

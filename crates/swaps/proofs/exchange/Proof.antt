@@ -1,10 +1,10 @@
--- `sweeps::exchange` meets its contract: judged, then the pairs of the keys that have both bits swept by X. Assumes nothing.
+-- `swaps::exchange` meets its contract: judged, then the pairs of the keys that have both bits swept by X. Assumes nothing.
 use native.Mathlib.Omega.{arith}
 use borrow.Author.Needs.{needs}
 use Rattle.book.specs.Lent.{here}
 use Rattle.pairs.proofs.Swap as S
-use Rattle.sweeps.proofs.exchange.Statement.{statement}
-use Rattle.sweeps.proofs.exchange.Tie as tie
+use Rattle.swaps.proofs.exchange.Statement.{statement}
+use Rattle.swaps.proofs.exchange.Tie as tie
 
 abbrev start : tie.After-free-seat → tie.Start
 start c = c .before .before .before .before .before

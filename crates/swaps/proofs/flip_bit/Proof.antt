@@ -1,10 +1,10 @@
--- `sweeps::flip_bit` meets its contract: judged with its two numbers, then X swept, or nothing. Assumes nothing.
+-- `swaps::flip_bit` meets its contract: judged with its two numbers, then X swept, or nothing. Assumes nothing.
 use native.Mathlib.Omega.{arith}
 use borrow.Author.Needs.{needs}
 use Rattle.book.specs.Lent.{here}
 use Rattle.pairs.proofs.Flip as F
-use Rattle.sweeps.proofs.flip_bit.Statement.{statement}
-use Rattle.sweeps.proofs.flip_bit.Tie as tie
+use Rattle.swaps.proofs.flip_bit.Statement.{statement}
+use Rattle.swaps.proofs.flip_bit.Tie as tie
 
 abbrev start : tie.After-then → tie.Start
 start c = c .before .before .before .before .before .before .before .before
