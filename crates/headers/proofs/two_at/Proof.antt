@@ -1,11 +1,11 @@
--- `frames::two_at` reads the higher byte first. Assumes nothing.
+-- `headers::two_at` reads the higher byte first. Assumes nothing.
 use Prim.Native.Nat.{_+_}
 use native.Mathlib.Omega.{arith}
 use mathlib.Core.Path.{sym}
 use Rattle.frames.proofs.Reading.{two-is}
 use borrow.Author.Needs.{needs}
-use Rattle.frames.proofs.two_at.Statement.{statement}
-use Rattle.frames.proofs.two_at.Tie as tie
+use Rattle.headers.proofs.two_at.Statement.{statement}
+use Rattle.headers.proofs.two_at.Tie as tie
 
 cast-high : tie.Need-cast-high
 cast-high c = omega (arith, c .shared-slice-known .given (c .before .args .at))

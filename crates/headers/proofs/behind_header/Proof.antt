@@ -1,12 +1,12 @@
--- `frames::behind_header` meets its contract: all but the first 8 bytes. Assumes nothing.
+-- `headers::behind_header` meets its contract: all but the first 8 bytes. Assumes nothing.
 use Prim.Native.Nat.{_-_}
 use native.Mathlib.Omega.{arith}
 use mathlib.Core.Path.{sym}
 use lib.ListN.{length, drop, length-drop, drop-of-length-le}
 use lib.Seq.{take-all}
 use borrow.Author.Needs.{needs}
-use Rattle.frames.proofs.behind_header.Statement.{statement}
-use Rattle.frames.proofs.behind_header.Tie as tie
+use Rattle.headers.proofs.behind_header.Statement.{statement}
+use Rattle.headers.proofs.behind_header.Tie as tie
 
 returns : tie.Need-returns
 returns c = let input = c .before .before .args .input .now in sym (drop-of-length-le input {i = 8} (omega arith))

@@ -1,14 +1,14 @@
--- `frames::read_header` tests a header in the order of its bytes. Assumes nothing.
+-- `headers::read_header` tests a header in the order of its bytes. Assumes nothing.
 use Prim.Native.Nat.{ℕ}
 use native.Mathlib.Omega.{arith}
 use mathlib.Core.Bool.{true}
 use mathlib.Core.List.{List}
 use mathlib.Core.Path.{_≡_, sym, _∙_}
 use Rattle.book.specs.Records.{starts}
-use Rattle.frames.proofs.Reading.{four-is, too-short, other-tag, other-length, begun, no-qubit, too-many, good, bad-small, good-small}
+use Rattle.headers.proofs.Reading.{four-is, too-short, other-tag, other-length, begun, no-qubit, too-many, good, bad-small, good-small}
 use borrow.Author.Needs.{needs}
-use Rattle.frames.proofs.read_header.Statement.{statement}
-use Rattle.frames.proofs.read_header.Tie as tie
+use Rattle.headers.proofs.read_header.Statement.{statement}
+use Rattle.headers.proofs.read_header.Tie as tie
 
 -- `long` is the place behind the test of the bytes' number, `begins` behind that of 0005
 

@@ -8,10 +8,7 @@ use lib.Ieee.{Float}
 use lib.ListN.{take, replicate}
 use Rattle.book.specs.Answers.{buffers}
 use Rattle.book.specs.Examples.{whole}
-use Rattle.feeding.specs.Feeding.{restIn}
-use Rattle.frames.specs.Streams.{begun}
-use Rattle.gathering.proofs.Kept.{none-kept}
-use Rattle.program.specs.Program.{firstState, fresh}
+use Rattle.first_state.specs.First.{firstState}
 
 -- as many places as n qubits have
 pub places : (n : ℕ) → n ≤ 11 → (1 ≤ 2 ^ n) × (2 ^ n ≤ 2048)
@@ -46,7 +43,3 @@ module _ (n : ℕ) (few : n ≤ 11) where
       → let size = (1 * 2 ^ n) % 2 ^ 64 - 0 in buffers (take size reals) (take size (replicate 2048 z)) ≡ firstState n
   first-lent reals {z} are none =
       ap₂ buffers (ap (λ (k : ℕ). take k reals) shifted ∙ are n few) (ap (λ (k : ℕ). take k (replicate 2048 z)) shifted ∙ first-imaginary none)
-
--- behind the header nothing is kept
-pub fresh-rest : (n own : ℕ) → restIn (fresh n own .form) ≡ begun []
-fresh-rest n own = none-kept (replicate 97 0)

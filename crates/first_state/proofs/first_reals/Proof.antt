@@ -1,11 +1,11 @@
--- `program::first_reals` meets its contract: 1 is stored at index 0 of zeros. Assumes nothing.
+-- `first_state::first_reals` meets its contract: 1 is stored at index 0 of zeros. Assumes nothing.
 use native.Mathlib.Omega.{arith}
 use mathlib.Core.Path.{refl}
 use lib.Ieee.{ofInt, ofBits}
 use borrow.Author.Needs.{needs}
-use Rattle.program.proofs.First.{first-real}
-use Rattle.program.proofs.first_reals.Statement.{statement}
-use Rattle.program.proofs.first_reals.Tie as tie
+use Rattle.first_state.proofs.First.{first-real}
+use Rattle.first_state.proofs.first_reals.Statement.{statement}
+use Rattle.first_state.proofs.first_reals.Tie as tie
 
 returns : tie.Need-returns
 unfolding ofInt ofBits
