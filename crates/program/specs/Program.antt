@@ -13,7 +13,8 @@ use Rattle.headers.specs.declared.Header.{Header}
 use Rattle.headers.specs.declared.Header.the-variants.{Good, Bad}
 use Rattle.once.specs.AllOnce.{bench}
 use Rattle.once.specs.Answered.{Answered, answersOf}
-use Rattle.printing.specs.Printed.{answerLines, closing, Put}
+use Rattle.printing.specs.Printed.{answerLines, closing}
+use Rattle.puts.specs.Put.{Put}
 use Rattle.stream.specs.Lines.{badHeaderLine}
 use Rattle.program.specs.declared.Running.{Running}
 

@@ -12,7 +12,8 @@ ghost use lib.ListN.{length};
 ghost use Rattle.book.specs.Answers.{buffers};
 ghost use Rattle.book.specs.Lent.{before, after};
 ghost use Rattle.feeding.specs.Feeding.{formOf, restIn, cuts, toldOf};
-ghost use Rattle.printing.specs.Printed.{answerLines, closing, Put};
+ghost use Rattle.printing.specs.Printed.{answerLines, closing};
+ghost use Rattle.puts.specs.Put.{Put};
 ghost use Rattle.program.specs.Program.{fresh, runOf, Prints};
 
 // The most bytes that are read at a time, and what has room for all that they print, and for the state: a line has at most 128 bytes, a delivery at least one.

@@ -16,8 +16,9 @@ use Rattle.headers.specs.declared.Header.{Header}
 use Rattle.headers.specs.declared.Header.the-variants.{Good, Bad}
 use Rattle.once.specs.AllOnce.{bench}
 use Rattle.once.specs.Answered.{Answered, answersOf}
-use Rattle.printing.proofs.Puts.{put-then}
-use Rattle.printing.specs.Printed.{answerLines, closing, Put}
+use Rattle.puts.proofs.Puts.{put-then}
+use Rattle.printing.specs.Printed.{answerLines, closing}
+use Rattle.puts.specs.Put.{Put}
 use Rattle.program.proofs.Pieces.{prints-none, prints-then}
 use Rattle.stream.specs.Lines.{badHeaderLine}
 use Rattle.program.proofs.Fresh.{fresh-rest}

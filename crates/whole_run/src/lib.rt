@@ -20,7 +20,7 @@ ghost use Rattle.book.specs.Sessions as Book;
 ghost use Rattle.feeding.specs.Feeding.{restIn};
 ghost use Rattle.first_state.specs.First.{firstState};
 ghost use Rattle.frames.specs.Streams.{begun};
-ghost use Rattle.printing.specs.Printed.{Put};
+ghost use Rattle.puts.specs.Put.{Put};
 ghost use Rattle.program.specs.Program.{linesOf, printed, runOf, Prints};
 
 // Piece after piece, as bench_run reads them.

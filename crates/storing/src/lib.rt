@@ -1,5 +1,5 @@
-// The fields behind 04, by their shape: how many bytes they are, and their storing from a place on.
-ghost use mathlib.Core.Path.{_≡_};
+// The fields behind 04, by their shape, stored from a place on.
+// An inner room: its function asks for room, and its caller is proved.
 ghost use Prim.Native.Nat.{_+_, _≤_};
 ghost use lib.ListN.{length};
 ghost use Rattle.book.specs.Records.{maskField, fieldsOf};
@@ -8,33 +8,6 @@ use book::Controls;
 use book::Shape;
 use stores::store_floats_field;
 use stores::store_number_field;
-
-// Fields 01 to 04.
-const HEAD: usize = 20;
-
-// Tag and length of a field.
-const START: usize = 3;
-
-// Field 05, a field of two floats, and one of eight.
-const MASK: usize = START + 4;
-
-const PAIR: usize = START + 16;
-
-const EIGHT: usize = START + 64;
-
-// How many bytes a record of this shape has.
-pub(crate) fn size_of(shape: Shape) -> usize
-    ensures { λ r. ⌜ r ≡ 20 + length (fieldsOf shape) ⌝ }
-{
-    match shape {
-        Shape::Plain(_) => HEAD + MASK,
-        Shape::Angled(_, _) => HEAD + MASK + PAIR,
-        Shape::Eight(_, _) => HEAD + MASK + EIGHT,
-        Shape::Second(_) => HEAD + START + 1,
-        Shape::Forced(_) => HEAD + START + 2,
-        Shape::Noisy(_) => HEAD + PAIR,
-    }
-}
 
 // Field 05.
 fn store_mask(out: &mut [u8], at: usize, controls: Controls) -> usize
@@ -45,7 +18,7 @@ fn store_mask(out: &mut [u8], at: usize, controls: Controls) -> usize
 }
 
 // The fields behind 04.
-pub(crate) fn store_shape(out: &mut [u8], at: usize, shape: Shape) -> usize
+pub fn store_shape(out: &mut [u8], at: usize, shape: Shape) -> usize
     requires { ⌜ at + length (fieldsOf shape) ≤ length (now out) ⌝ }
     ensures { λ r. ⌜ Stored (fieldsOf shape) (now (out .entry)) at r (now (out .exit)) ⌝ }
 {

@@ -1,14 +1,14 @@
--- `printing::put` stores byte after byte: what is left to store, stored, gives the whole; behind the buffer's end nothing is. Assumes nothing.
+-- `puts::put` stores byte after byte: what is left to store, stored, gives the whole; behind the buffer's end nothing is. Assumes nothing.
 use Prim.Native.Nat.{_+_, _-_, _≤_}
 use native.Mathlib.Omega.{arith}
 use mathlib.Core.Path.{_≡_, sym, _∙_}
 use lib.ListN.{length, drop, length-set}
 use Rattle.stores.specs.Stores.{store}
 use Rattle.words.proofs.Writing.{stored-none, stored-all, stored-step}
-use Rattle.printing.proofs.Puts.{store-out}
+use Rattle.puts.proofs.Puts.{store-out}
 use borrow.Author.Needs.{needs}
-use Rattle.printing.proofs.put.Statement.{statement}
-use Rattle.printing.proofs.put.Tie as tie
+use Rattle.puts.proofs.put.Statement.{statement}
+use Rattle.puts.proofs.put.Tie as tie
 
 abbrev Inv-loop : tie.InvT-loop
 Inv-loop out₀ at words i₀ out i =

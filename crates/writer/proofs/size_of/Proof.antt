@@ -1,7 +1,7 @@
--- `writer::storing::size_of` says how many bytes the fields of each shape are. Assumes nothing.
+-- `writer::size_of` says how many bytes the fields of each shape are. Assumes nothing.
 use borrow.Author.Needs.{needs}
-use Rattle.writer.proofs.storing.size_of.Statement.{statement}
-use Rattle.writer.proofs.storing.size_of.Tie as tie
+use Rattle.writer.proofs.size_of.Statement.{statement}
+use Rattle.writer.proofs.size_of.Tie as tie
 
 pub size-of-spec : {M : Type 1} → statement M
 size-of-spec =

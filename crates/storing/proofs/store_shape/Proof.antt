@@ -1,4 +1,4 @@
--- `writer::storing::store_shape` stores the fields behind 04, shape by shape. Assumes nothing.
+-- `storing::store_shape` stores the fields behind 04, shape by shape. Assumes nothing.
 use Prim.Native.Nat.{ℕ, _+_, _*_, _/_, _%_, _≤_, _<_}
 use native.Mathlib.Omega.{arith}
 use mathlib.Core.List.{List, [], _∷_, _++_}
@@ -9,8 +9,8 @@ use Rattle.book.specs.Records.{bytes, fieldsOf, field}
 use Rattle.book.specs.declared.Shape.{Shape}
 use Rattle.stores.proofs.Stored.{stored-then}
 use Rattle.stores.specs.Stores.{Stored}
-use Rattle.writer.proofs.storing.store_shape.Statement.{statement}
-use Rattle.writer.proofs.storing.store_shape.Tie as tie
+use Rattle.storing.proofs.store_shape.Statement.{statement}
+use Rattle.storing.proofs.store_shape.Tie as tie
 
 -- the room that is asked for, at the shape that was found
 fits : (c : tie.Start) (shape : Shape) → c .args .shape ≡ shape → c .args .at + length (fieldsOf shape) ≤ length (c .args .out .now)

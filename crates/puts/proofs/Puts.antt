@@ -2,19 +2,16 @@
 -- be stored where they would stand in a longer buffer. A loop is followed by what is left to put. Assumes nothing.
 use Prim.Native.Nat.{ℕ, suc, _+_, _-_, _≤_, _<_, min}
 use native.Mathlib.Nat.{eq-zero-or-pos}
-use native.Mathlib.Numerals.{add-one}
 use native.Mathlib.Omega.{arith}
 use mathlib.Core.List.{List, [], _∷_, _++_}
 use mathlib.Core.Logic.{⊎-elim}
 use mathlib.Core.Path.{_≡_, refl, sym, ap, _∙_}
-use lib.Ieee.{Float}
-use lib.ListN.{length, take, drop, getD, length-append, drop-of-length-le}
-use lib.Seq.{sets, length-sets, set-out, drop-cons, take-at}
+use lib.ListN.{length, take, drop, length-append}
+use lib.Seq.{sets, length-sets, set-out, take-at}
 use Rattle.stores.proofs.Stored.{store-then}
 use Rattle.stores.specs.Stores.{store}
-use Rattle.stream.specs.Lines.{amplitudeLine}
 use Rattle.words.specs.Words.{Line}
-use Rattle.printing.specs.Printed.{stateLines, Put}
+use Rattle.puts.specs.Put.{Put}
 
 -- ---- one behind the other
 
@@ -72,23 +69,3 @@ module _ {whole l₀ : List ℕ} {at₀ : ℕ} where
 
   pub left-none : {left l : List ℕ} {at : ℕ} → left ≡ [] → at ≤ length l → Left whole l₀ at₀ left l at → Put whole l₀ at₀ at l
   left-none {l = l} {at} e h whole-of = whole-of at l (rw e (put-none l at h))
-
--- ---- the A lines
-
-state-bare : (i : ℕ) (xs : List Float) → stateLines i xs [] ≡ []
-state-bare i [] = refl
-state-bare i (x ∷ xs) = refl
-
-module _ (xs ys : List Float) where
-  -- those from a place on
-  abbrev pub linesFrom : ℕ → List ℕ
-  linesFrom i = stateLines i (drop i xs) (drop i ys)
-
-  pub no-real : (i : ℕ) → length xs ≤ i → linesFrom i ≡ []
-  no-real i h = ap (λ (zs : List Float). stateLines i zs (drop i ys)) (drop-of-length-le xs {i = i} h)
-
-  pub no-imaginary : (i : ℕ) → length ys ≤ i → linesFrom i ≡ []
-  no-imaginary i h = ap (stateLines i (drop i xs)) (drop-of-length-le ys {i = i} h) ∙ state-bare i (drop i xs)
-
-  pub line-next : (d : Float) (i : ℕ) → i < length xs → i < length ys → linesFrom i ≡ amplitudeLine i (getD xs i d) (getD ys i d) ++ linesFrom (i + 1)
-  line-next d i h k = rw (drop-cons xs i d h, drop-cons ys i d k) (rw add-one)
