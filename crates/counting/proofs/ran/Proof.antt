@@ -1,8 +1,8 @@
--- `standing::ran` meets its contract, by what the gate answered. Assumes nothing.
+-- `counting::ran` meets its contract, by what the gate answered. Assumes nothing.
 use mathlib.Core.Path.{refl}
 use borrow.Author.Needs.{needs}
-use Rattle.standing.proofs.ran.Statement.{statement}
-use Rattle.standing.proofs.ran.Tie as tie
+use Rattle.counting.proofs.ran.Statement.{statement}
+use Rattle.counting.proofs.ran.Tie as tie
 
 pub ran-spec : {M : Type 1} → statement M
 ran-spec =

@@ -1,8 +1,8 @@
--- `standing::passed` meets its contract, by what the size is answered. Assumes nothing.
+-- `counting::passed` meets its contract, by what the size is answered. Assumes nothing.
 use mathlib.Core.Path.{refl}
 use borrow.Author.Needs.{needs}
-use Rattle.standing.proofs.passed.Statement.{statement}
-use Rattle.standing.proofs.passed.Tie as tie
+use Rattle.counting.proofs.passed.Statement.{statement}
+use Rattle.counting.proofs.passed.Tie as tie
 
 pub passed-spec : {M : Type 1} → statement M
 passed-spec =
