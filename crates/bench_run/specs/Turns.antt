@@ -5,10 +5,11 @@ use mathlib.Core.Path.{_≡_}
 use lib.ListN.{length}
 use Rattle.book.specs.Answers.{Buffers}
 use Rattle.feeding.specs.Feeding.{restIn, cuts, TakesAll}
-use Rattle.frames.specs.Frames.{mostInProgram}
+use Rattle.headers.specs.Headers.{mostInProgram}
 use Rattle.once.specs.Answered.{Answered}
 use Rattle.printing.specs.Printed.{answerLines, closing}
-use Rattle.program.specs.Program.{firstState, Run, fresh}
+use Rattle.first_state.specs.First.{firstState}
+use Rattle.program.specs.Program.{Run, fresh}
 
 -- The start, behind a good header: a session that starts, and the state real 1 at index 0.
 pub record Begins (x : Run) (b : Buffers) : Type 0 where

@@ -9,9 +9,9 @@ ghost use Rattle.bench_run.specs.Turns.{Begins};
 mod turns;
 
 use feeding::Feed;
-use frames::Header;
+use first_state::MOST_PLACES;
 use gathering::STOPPED;
-use program::MOST_PLACES;
+use headers::Header;
 use program::OUT;
 use program::PIECE;
 use program::Running;
@@ -110,7 +110,7 @@ fn run_bench(input: i32, n: u32, number: u32) -> Ended
     requires { ⌜ n ≤ 11 ⌝ }
 {
     let size: usize = 1 << n;
-    let mut reals = program::first_reals();
+    let mut reals = first_state::first_reals();
     let mut imags = [0.0; MOST_PLACES];
     run_session(
         input,
@@ -132,7 +132,7 @@ fn bad_header() -> Ended {
 pub fn run_from(input: i32) -> Ended {
     let mut head = [0u8; 8];
     let got = io::read_full(input, &mut head);
-    let header = frames::read_header(&head[..got]);
+    let header = headers::read_header(&head[..got]);
     match header {
         Header::Good(n, number) => run_bench(input, n, number),
         Header::Bad => bad_header(),

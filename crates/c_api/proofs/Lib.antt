@@ -1,4 +1,3 @@
--- Plain: a call's number is its outcome's. Started: a start, case by case. Pieces: a piece of a stream, by the numbers that the caller keeps.
-pub mod Plain
+-- Started: a start, case by case. Pieces: a piece of a stream, by the numbers that the caller keeps.
 pub mod Started
 pub mod Pieces

@@ -5,7 +5,7 @@ mod compare;
 
 use apart::Stored;
 use apart::take_apart;
-use frames::Header;
+use headers::Header;
 use libc::STDOUT_FILENO;
 
 // The longest of the files, and a byte more: a longer one is not taken apart.
@@ -32,12 +32,12 @@ fn report(name: &[u8], stored: Stored, frames: &[u8]) {
 }
 
 fn run_input(name: &[u8], input: &[u8]) {
-    let header = frames::read_header(input);
+    let header = headers::read_header(input);
     let Header::Good(n, number) = header else {
         say(name, b": BAD HEADER\n");
         return;
     };
-    report(name, Stored { n, number }, frames::behind_header(input));
+    report(name, Stored { n, number }, headers::behind_header(input));
 }
 
 fn run_stored(name: &[u8]) {

@@ -3,6 +3,9 @@
 // so the arms are one call, and one proof serves them all. The last arm is no gate's. Their many parameters are those of a run.
 // An inner room: its function asks for keys whose pairs lie apart, and its callers are proved.
 use book::Angle;
+use pairs::read_pair;
+use pairs::write_pair;
+use rules::put_quick;
 use runs::runs;
 ghost use Prim.Native.Nat.{_+_, _-_, _<_, _^_};
 ghost use Rattle.book.specs.Lent.{before, after, here};
@@ -176,7 +179,7 @@ fn strided(
 
 // Run by run, where not every qubit is fixed. The fixed bits are cut in two: the ones that they end in give the stride,
 // and the lowest bit of the rest the length of a run.
-pub fn by_runs(
+fn by_runs(
     reals: &mut [f64],
     imags: &mut [f64],
     n: u32,
@@ -221,4 +224,30 @@ pub fn by_runs(
         rule,
         angle,
     );
+}
+
+// A rule that needs no F, run by run; where every qubit is fixed there is one pair.
+pub fn sweep(
+    reals: &mut [f64],
+    imags: &mut [f64],
+    n: u32,
+    fixed: usize,
+    back0: usize,
+    back1: usize,
+    rule: u32,
+    angle: Angle,
+)
+    requires { ⌜ Keyed n fixed back0 back1 (here reals imags) ⌝ }
+    ensures { λ _. ⌜ Swept (quickOf rule angle) n fixed back0 back1 (before reals imags) (after reals imags) ⌝ }
+{
+    let size: usize = 1 << n;
+    if fixed + 1 == size {
+        let s0 = fixed - back0;
+        let s1 = fixed - back1;
+        let p = read_pair(reals, imags, s0, s1);
+        let q = put_quick(rule, angle, p);
+        write_pair(reals, imags, s0, s1, q);
+        return;
+    }
+    by_runs(reals, imags, n, fixed, back0, back1, rule, angle);
 }

@@ -1,26 +1,12 @@
--- What the program reads: a header, then frames. Definitions only. Assumes nothing.
+-- What the program reads behind the header: a frame. Definitions only. Assumes nothing.
 use Prim.Native.Nat.{ℕ, _+_}
 use mathlib.Core.Bool.{cond, not}
 use mathlib.Core.List.{List}
 use lib.Dec.{ltb, eqb}
 use lib.ListN.{length, take, drop, getD}
-use Rattle.book.specs.Kernels.{badSize}
-use Rattle.book.specs.Records.{number, mostBytes, starts}
-use Rattle.frames.specs.declared.Header.{Header}
-use Rattle.frames.specs.declared.Header.the-variants.{Good, Bad}
+use Rattle.book.specs.Records.{number, mostBytes}
 use Rattle.frames.specs.declared.Next.{Next}
 use Rattle.frames.specs.declared.Next.the-variants.{Whole, Over, Wrong, More}
-
--- n is 1 to 11 in the program
-abbrev pub mostInProgram : ℕ
-mostInProgram = 11
-
--- 21 0005, n (1 byte), session (4)
-abbrev pub headerOf : List ℕ → Header
-headerOf bs =
-    cond (starts 0x21 5 bs)
-    (cond (badSize mostInProgram (getD bs 3 0)) Bad (Good (getD bs 3 0) (number (take 4 (drop 4 bs)))))
-    Bad
 
 -- a frame over 94 bytes is read past; any other is a delivery once it is whole
 abbrev pub sized : ℕ → ℕ → Next

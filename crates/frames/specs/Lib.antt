@@ -1,3 +1,3 @@
--- What the program reads: the header and a frame, and the frames of a stream.
+-- What the program reads behind the header: a frame, and the frames of a stream.
 pub mod Frames
 pub mod Streams

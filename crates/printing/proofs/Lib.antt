@@ -1,3 +1,3 @@
--- Puts: lines put one behind the other. Short: how long what is printed can be.
-pub mod Puts
+-- States: the A lines from a place on. Short: how long what is printed can be.
+pub mod States
 pub mod Short

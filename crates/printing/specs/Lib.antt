@@ -1,2 +1,2 @@
--- What the program prints, and how far a buffer holds it.
+-- What the program prints.
 pub mod Printed

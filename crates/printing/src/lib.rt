@@ -1,5 +1,6 @@
 // The program's lines put one behind the other into a buffer, as far as it goes. Each function answers the place behind its lines.
 use book::Reply;
+use puts::put;
 ghost use mathlib.Core.Bool.{cond};
 ghost use mathlib.Core.List.{[]};
 ghost use mathlib.Core.Path.{_≡_};
@@ -8,27 +9,9 @@ ghost use lib.ListN.{length};
 ghost use Rattle.book.specs.Answers.{replies, buffers};
 ghost use Rattle.book.specs.Sessions.{Session};
 ghost use Rattle.delivery_lines.specs.Deliveries.{deliveryLine};
+ghost use Rattle.puts.specs.Put.{Put};
 ghost use Rattle.stream.specs.Lines.{amplitudeLine, cutLine, badHeaderLine};
-ghost use Rattle.printing.specs.Printed.{stateLines, closing, Put};
-
-// Words behind a place. What finds no room is left out.
-fn put(out: &mut [u8], at: usize, words: &[u8]) -> usize
-    ensures { λ r. ⌜ Put (now (words .entry)) (now (out .entry)) at r (now (out .exit)) ⌝ }
-{
-    if out.len() < at {
-        return out.len();
-    }
-    let mut i: usize = 0;
-    while i < words.len() {
-        if out.len() <= at + i {
-            return at + i;
-        }
-        let byte = words[i];
-        out[at + i] = byte;
-        i += 1;
-    }
-    at + i
-}
+ghost use Rattle.printing.specs.Printed.{stateLines, closing};
 
 // The D line of an answer.
 pub fn put_answer(out: &mut [u8], at: usize, index: u64, reply: Reply, count: u16) -> usize

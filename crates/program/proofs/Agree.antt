@@ -7,7 +7,8 @@ use Rattle.book.specs.Answers.{Buffers}
 use Rattle.feeding.proofs.Agree.{takes-all-agree}
 use Rattle.feeding.specs.Feeding.{restIn}
 use Rattle.once.specs.Answered.{Answered}
-use Rattle.printing.specs.Printed.{answerLines, Put}
+use Rattle.printing.specs.Printed.{answerLines}
+use Rattle.puts.specs.Put.{Put}
 use Rattle.program.specs.Program.{Run, Prints}
 
 -- put_end, and print_all of crate whole_run

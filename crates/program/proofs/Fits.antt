@@ -16,7 +16,8 @@ use Rattle.gathering.proofs.Kept.{rest-settled}
 use Rattle.once.specs.AllOnce.{bench}
 use Rattle.once.specs.Answered.{answersOf}
 use Rattle.printing.proofs.Short.{answers-short, closing-short}
-use Rattle.printing.specs.Printed.{answerLines, closing, Put}
+use Rattle.printing.specs.Printed.{answerLines, closing}
+use Rattle.puts.specs.Put.{Put}
 use Rattle.stores.proofs.Stored.{store-first}
 use Rattle.program.specs.Program.{Run, Prints}
 

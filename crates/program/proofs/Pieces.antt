@@ -15,8 +15,9 @@ use Rattle.feeding.specs.Feeding.{Form, Takes, toldOf}
 use Rattle.feeding.specs.declared.Told.{Told}
 use Rattle.feeding.specs.declared.Told.the-variants.{Nothing, Reply as Replied}
 use Rattle.once.specs.Answered.{Answered}
-use Rattle.printing.proofs.Puts.{put-then}
-use Rattle.printing.specs.Printed.{answerLines, Put}
+use Rattle.puts.proofs.Puts.{put-then}
+use Rattle.printing.specs.Printed.{answerLines}
+use Rattle.puts.specs.Put.{Put}
 use Rattle.stores.specs.Stores.{store}
 use Rattle.program.specs.Program.{Run, Prints}
 

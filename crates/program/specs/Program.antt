@@ -1,25 +1,22 @@
 -- What the program prints, from its input's bytes alone; and what a piece of the input adds. Definitions only. Assumes nothing.
-use Prim.Native.Nat.{ℕ, _+_, _-_, _%_, _^_}
-use mathlib.Core.List.{List, [], _∷_, _++_}
+use Prim.Native.Nat.{ℕ, _+_, _%_, _^_}
+use mathlib.Core.List.{List, [], _++_}
 use mathlib.Core.Path.{_≡_}
 use lib.ListN.{length, drop, replicate}
 use Rattle.book.specs.Answers.{Buffers}
-use Rattle.book.specs.Examples.{real}
 use Rattle.book.specs.Sessions.{Session, session, deliverAll}
 use Rattle.feeding.specs.Feeding.{Form, form, formOf, cuts, TakesAll}
-use Rattle.frames.specs.Frames.{headerOf}
+use Rattle.first_state.specs.First.{firstState}
 use Rattle.frames.specs.Streams.{begun, streamOf}
-use Rattle.frames.specs.declared.Header.{Header}
-use Rattle.frames.specs.declared.Header.the-variants.{Good, Bad}
+use Rattle.headers.specs.Headers.{headerOf}
+use Rattle.headers.specs.declared.Header.{Header}
+use Rattle.headers.specs.declared.Header.the-variants.{Good, Bad}
 use Rattle.once.specs.AllOnce.{bench}
 use Rattle.once.specs.Answered.{Answered, answersOf}
-use Rattle.printing.specs.Printed.{answerLines, closing, Put}
+use Rattle.printing.specs.Printed.{answerLines, closing}
+use Rattle.puts.specs.Put.{Put}
 use Rattle.stream.specs.Lines.{badHeaderLine}
 use Rattle.program.specs.declared.Running.{Running}
-
--- real 1 at index 0, in n qubits
-abbrev pub firstState : ℕ → Buffers
-firstState n = real (1 ∷ replicate (2 ^ n - 1) 0)
 
 -- behind a header: a D line for each delivery, CUT, the A lines, END
 abbrev pub linesOf : Session → Buffers → List ℕ → List ℕ

@@ -7,16 +7,14 @@ use printing::put_answer;
 use printing::put_closing;
 use sessions::Session;
 ghost use mathlib.Core.Path.{_≡_};
-ghost use Prim.Native.Nat.{ℕ, _+_, _%_, _^_, _≤_};
-ghost use lib.ListN.{length, take};
+ghost use Prim.Native.Nat.{_+_, _%_, _^_, _≤_};
+ghost use lib.ListN.{length};
 ghost use Rattle.book.specs.Answers.{buffers};
 ghost use Rattle.book.specs.Lent.{before, after};
 ghost use Rattle.feeding.specs.Feeding.{formOf, restIn, cuts, toldOf};
-ghost use Rattle.printing.specs.Printed.{answerLines, closing, Put};
-ghost use Rattle.program.specs.Program.{firstState, fresh, runOf, Prints};
-
-// The places of the most qubits in the program.
-pub const MOST_PLACES: usize = 2048;
+ghost use Rattle.printing.specs.Printed.{answerLines, closing};
+ghost use Rattle.puts.specs.Put.{Put};
+ghost use Rattle.program.specs.Program.{fresh, runOf, Prints};
 
 // The most bytes that are read at a time, and what has room for all that they print, and for the state: a line has at most 128 bytes, a delivery at least one.
 pub const PIECE: usize = 2048;
@@ -47,15 +45,6 @@ pub fn start(n: u32, number: u32) -> Running
 {
     let feed = Feed::start(Session::resume(n, number, 0));
     Running { feed, index: 0 }
-}
-
-// Real 1 at index 0, in as many places as n qubits have.
-pub fn first_reals() -> [f64; MOST_PLACES]
-    ensures { λ r. ⌜ ((n : ℕ) → n ≤ 11 → take (2 ^ n) r ≡ firstState n .reals) ⌝ }
-{
-    let mut reals = [0.0; MOST_PLACES];
-    reals[0] = 1.0;
-    reals
 }
 
 // The line of what was told, if anything was.

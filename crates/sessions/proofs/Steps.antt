@@ -19,8 +19,8 @@ use Rattle.book.specs.declared.Record.{Record}
 use Rattle.book.specs.declared.Refusal.{Refusal}
 use Rattle.book.specs.declared.Reply.{Reply}
 use Rattle.seated.specs.Judging.{verdict, Judges}
-use Rattle.standing.specs.Stands.{Counts, behind, Passes}
-use Rattle.standing.specs.declared.Counted.{Counted}
+use Rattle.counting.specs.Counts.{Counts, behind, Passes}
+use Rattle.counting.specs.declared.Counted.{Counted}
 use Rattle.sessions.specs.Deliveries.{meant, resumed, told, unsized, Delivers}
 use Rattle.sessions.specs.declared.Delivered.{Delivered}
 use Rattle.sessions.specs.declared.Session.{Session}

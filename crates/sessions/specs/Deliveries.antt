@@ -5,8 +5,8 @@ use Rattle.book.specs.Answers.{numberOf, Replied, replies, Gives, gives, denied
 use Rattle.book.specs.Kernels.{sizeTests}
 use Rattle.book.specs.Sessions as Book
 use Rattle.seated.specs.Judging.{verdict}
-use Rattle.standing.specs.Stands.{behind}
-use Rattle.standing.specs.declared.Counted.{Counted}
+use Rattle.counting.specs.Counts.{behind}
+use Rattle.counting.specs.declared.Counted.{Counted}
 use Rattle.sessions.specs.declared.Delivered.{Delivered}
 use Rattle.sessions.specs.declared.Session.{Session}
 use Rattle.sessions.specs.declared.Started.{Started}

@@ -4,8 +4,8 @@ use book::MOST_QUBITS;
 use book::Read;
 use book::Refusal;
 use book::Reply;
+use counting::Counted;
 use once::next_size;
-use standing::Counted;
 use standing::Standing;
 use standing::stand;
 ghost use mathlib.Core.Path.{_≡_};
@@ -71,7 +71,7 @@ impl Session {
         ensures { λ r. ⌜ Delivers (unsized (meant self) (before reals imags) (replies reply)) r (before reals imags) ⌝ }
     {
         let size = judging::size(reals, imags, self.n);
-        self.told(standing::passed(self.count, size, reply))
+        self.told(counting::passed(self.count, size, reply))
     }
 
     // Only the next record goes on to its gate, whose own tests begin with 1 and 2: so a delivery is judged once.
@@ -85,7 +85,7 @@ impl Session {
             Standing::Next(next) => {
                 let gate = it.gate;
                 let answer = act(self.n, gate, reals, imags);
-                self.told(standing::ran(self.count, next, answer))
+                self.told(counting::ran(self.count, next, answer))
             }
             Standing::Answered(reply) => self.passed(reply, reals, imags),
         }

@@ -1,2 +1,2 @@
--- What a standing means, and what is answered.
+-- What a standing means.
 pub mod Stands

@@ -10,18 +10,20 @@ use Rattle.book.specs.Answers.{Buffers}
 use Rattle.book.specs.Lent.{SameSize}
 use Rattle.book.specs.Sessions.{session, Bench, deliverAll}
 use Rattle.feeding.specs.Feeding.{restIn, cuts}
-use Rattle.frames.specs.Frames.{headerOf}
+use Rattle.headers.specs.Headers.{headerOf}
 use Rattle.frames.specs.Streams.{Rest, begun, streamOf}
-use Rattle.frames.specs.declared.Header.{Header}
-use Rattle.frames.specs.declared.Header.the-variants.{Good, Bad}
+use Rattle.headers.specs.declared.Header.{Header}
+use Rattle.headers.specs.declared.Header.the-variants.{Good, Bad}
 use Rattle.once.specs.AllOnce.{bench}
 use Rattle.once.specs.Answered.{Answered, answersOf}
-use Rattle.printing.proofs.Puts.{put-then}
-use Rattle.printing.specs.Printed.{answerLines, closing, Put}
+use Rattle.puts.proofs.Puts.{put-then}
+use Rattle.printing.specs.Printed.{answerLines, closing}
+use Rattle.puts.specs.Put.{Put}
 use Rattle.program.proofs.Pieces.{prints-none, prints-then}
 use Rattle.stream.specs.Lines.{badHeaderLine}
-use Rattle.program.proofs.First.{fresh-rest}
-use Rattle.program.specs.Program.{firstState, linesOf, printedBy, printed, Run, fresh, Prints}
+use Rattle.program.proofs.Fresh.{fresh-rest}
+use Rattle.first_state.specs.First.{firstState}
+use Rattle.program.specs.Program.{linesOf, printedBy, printed, Run, fresh, Prints}
 
 -- ---- piece after piece
 

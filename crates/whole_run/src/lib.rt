@@ -1,14 +1,14 @@
 // The whole program over slices: from all bytes of the input to all bytes that are printed, in pieces as bench_run reads them.
-use frames::Header;
-use frames::behind_header;
-use frames::read_header;
+use first_state::MOST_PLACES;
+use first_state::first_reals;
+use headers::Header;
+use headers::behind_header;
+use headers::read_header;
 use once::next_size;
 use printing::put_bad_header;
-use program::MOST_PLACES;
 use program::PIECE;
 use program::Printed;
 use program::Running;
-use program::first_reals;
 use program::put_end;
 use program::put_piece;
 use program::start;
@@ -18,9 +18,10 @@ ghost use Prim.Native.Nat.{_≤_};
 ghost use Rattle.book.specs.Lent.{before, after};
 ghost use Rattle.book.specs.Sessions as Book;
 ghost use Rattle.feeding.specs.Feeding.{restIn};
+ghost use Rattle.first_state.specs.First.{firstState};
 ghost use Rattle.frames.specs.Streams.{begun};
-ghost use Rattle.printing.specs.Printed.{Put};
-ghost use Rattle.program.specs.Program.{firstState, linesOf, printed, runOf, Prints};
+ghost use Rattle.puts.specs.Put.{Put};
+ghost use Rattle.program.specs.Program.{linesOf, printed, runOf, Prints};
 
 // Piece after piece, as bench_run reads them.
 fn put_pieces(

@@ -1,20 +1,44 @@
 // The writer of gate records: it touches only the record's bytes and answers how many they are, or refuses with 12 and touches nothing.
 ghost use mathlib.Core.Path.{_≡_};
-ghost use Prim.Native.Nat.{_≤_};
+ghost use Prim.Native.Nat.{_+_, _≤_};
 ghost use lib.ListN.{length};
-ghost use Rattle.book.specs.Records.{writtenSays, wroteOf, leftBy};
+ghost use Rattle.book.specs.Records.{writtenSays, wroteOf, leftBy, fieldsOf};
 ghost use Rattle.stores.specs.Stores.{Stored};
 ghost use Rattle.writer.specs.Heads.{headOf};
-
-mod storing;
-
-use crate::storing::size_of;
-use crate::storing::store_shape;
 use book::Record;
 use book::Refusal;
+use book::Shape;
 use book::Written;
 use shapes::parts_of;
 use stores::store_number_field;
+use storing::store_shape;
+
+// The bytes of fields 01 to 04.
+const HEAD: usize = 20;
+
+// Tag and length of a field.
+const START: usize = 3;
+
+// Field 05, a field of two floats, and one of eight.
+const MASK: usize = START + 4;
+
+const PAIR: usize = START + 16;
+
+const EIGHT: usize = START + 64;
+
+// How many bytes a record of this shape has.
+fn size_of(shape: Shape) -> usize
+    ensures { λ r. ⌜ r ≡ 20 + length (fieldsOf shape) ⌝ }
+{
+    match shape {
+        Shape::Plain(_) => HEAD + MASK,
+        Shape::Angled(_, _) => HEAD + MASK + PAIR,
+        Shape::Eight(_, _) => HEAD + MASK + EIGHT,
+        Shape::Second(_) => HEAD + START + 1,
+        Shape::Forced(_) => HEAD + START + 2,
+        Shape::Noisy(_) => HEAD + PAIR,
+    }
+}
 
 // Fields 01 to 04.
 fn store_head(out: &mut [u8], session: u32, number: u16, code: u8, target: u8) -> usize

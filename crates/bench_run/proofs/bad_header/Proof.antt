@@ -2,7 +2,7 @@
 use mathlib.Core.Path.{sym}
 use lib.Seq.{length-take-le}
 use borrow.Author.Needs.{needs}
-use Rattle.printing.proofs.Puts.{put-within}
+use Rattle.puts.proofs.Puts.{put-within}
 use Rattle.bench_run.proofs.bad_header.Statement.{statement}
 use Rattle.bench_run.proofs.bad_header.Tie as tie
 

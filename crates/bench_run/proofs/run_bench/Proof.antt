@@ -3,7 +3,7 @@ use native.Mathlib.Omega.{arith}
 use mathlib.Core.Path.{refl}
 use lib.Ieee.{ofInt, ofBits}
 use borrow.Author.Needs.{needs}
-use Rattle.program.proofs.First.{places, shifted, first-lent}
+use Rattle.first_state.proofs.First.{places, shifted, first-lent}
 use Rattle.bench_run.proofs.run_bench.Statement.{statement}
 use Rattle.bench_run.proofs.run_bench.Tie as tie
 

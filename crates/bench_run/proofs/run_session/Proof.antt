@@ -7,7 +7,7 @@ use lib.ListN.{length, replicate, length-map, length-replicate}
 use borrow.Author.Needs.{needs}
 use Rattle.book.specs.Answers.{Buffers}
 use Rattle.book.specs.Examples.{whole}
-use Rattle.program.proofs.First.{places}
+use Rattle.first_state.proofs.First.{places}
 use Rattle.program.specs.Program.{Run}
 use Rattle.bench_run.specs.Turns.{Begins}
 use Rattle.bench_run.proofs.run_session.Statement.{statement}

@@ -1,5 +1,5 @@
 -- `printing::put_answer` makes the D line at the start of an array and puts as many bytes of it as the line has. Assumes nothing.
-use Rattle.printing.proofs.Puts.{put-line}
+use Rattle.puts.proofs.Puts.{put-line}
 use borrow.Author.Needs.{needs}
 use Rattle.printing.proofs.put_answer.Statement.{statement}
 use Rattle.printing.proofs.put_answer.Tie as tie

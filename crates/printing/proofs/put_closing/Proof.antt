@@ -1,5 +1,5 @@
 -- `printing::put_closing` puts its parts one behind the other; behind CUT stands a place of the buffer, as the A lines ask. Assumes nothing.
-use Rattle.printing.proofs.Puts.{put-then, put-within, put-line}
+use Rattle.puts.proofs.Puts.{put-then, put-within, put-line}
 use borrow.Author.Needs.{needs}
 use Rattle.printing.proofs.put_closing.Statement.{statement}
 use Rattle.printing.proofs.put_closing.Tie as tie

@@ -1,5 +1,5 @@
 -- `printing::put_cut` puts the line, or none of the array's bytes: on either side of the test that is what the definition asks. Assumes nothing.
-use Rattle.printing.proofs.Puts.{put-line}
+use Rattle.puts.proofs.Puts.{put-line}
 use borrow.Author.Needs.{needs}
 use Rattle.printing.proofs.put_cut.Statement.{statement}
 use Rattle.printing.proofs.put_cut.Tie as tie

@@ -1,5 +1,5 @@
 -- `printing::put_place` makes the A line at the start of an array and puts as many bytes of it as the line has. Assumes nothing.
-use Rattle.printing.proofs.Puts.{put-line}
+use Rattle.puts.proofs.Puts.{put-line}
 use borrow.Author.Needs.{needs}
 use Rattle.printing.proofs.put_place.Statement.{statement}
 use Rattle.printing.proofs.put_place.Tie as tie

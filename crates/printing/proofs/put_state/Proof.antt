@@ -5,7 +5,8 @@ use mathlib.Core.Path.{_≡_, _∙_}
 use lib.Ieee.{nan}
 use lib.ListN.{length}
 use Rattle.printing.specs.Printed.{stateLines}
-use Rattle.printing.proofs.Puts.{put-length, put-within, Left, left-step, left-none, linesFrom, no-real, no-imaginary, line-next}
+use Rattle.puts.proofs.Puts.{put-length, put-within, Left, left-step, left-none}
+use Rattle.printing.proofs.States.{linesFrom, no-real, no-imaginary, line-next}
 use borrow.Author.Needs.{needs}
 use Rattle.printing.proofs.put_state.Statement.{statement}
 use Rattle.printing.proofs.put_state.Tie as tie

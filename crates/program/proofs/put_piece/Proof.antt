@@ -6,7 +6,7 @@ use lib.ListN.{length}
 use borrow.Author.Needs.{needs}
 use Rattle.book.specs.Answers.{buffers}
 use Rattle.feeding.specs.Feeding.{form}
-use Rattle.printing.proofs.Puts.{put-length, put-within}
+use Rattle.puts.proofs.Puts.{put-length, put-within}
 use Rattle.sessions.specs.Deliveries.{meant}
 use Rattle.sessions.specs.declared.Session.{Session}
 use Rattle.program.specs.Program.{Run}

@@ -4,7 +4,7 @@ use native.Mathlib.Omega.{arith}
 use lib.ListN.{length}
 use borrow.Author.Needs.{needs}
 use Rattle.book.specs.Answers.{buffers}
-use Rattle.printing.proofs.Puts.{put-length}
+use Rattle.puts.proofs.Puts.{put-length}
 use Rattle.program.specs.Program.{runOf}
 use Rattle.whole_run.proofs.Whole.{Part, part-none, part-more, part-all}
 use Rattle.whole_run.proofs.put_pieces.Statement.{statement}

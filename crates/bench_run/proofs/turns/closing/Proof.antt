@@ -4,7 +4,7 @@ use lib.ListN.{length}
 use borrow.Author.Needs.{needs}
 use Rattle.book.specs.Answers.{buffers}
 use Rattle.feeding.specs.Feeding.{restIn, cuts}
-use Rattle.printing.proofs.Puts.{put-within}
+use Rattle.puts.proofs.Puts.{put-within}
 use Rattle.program.proofs.Fits.{closing-stands}
 use Rattle.program.specs.Program.{runOf}
 use Rattle.bench_run.proofs.turns.closing.Statement.{statement}

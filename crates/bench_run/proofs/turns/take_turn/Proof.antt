@@ -7,7 +7,7 @@ use lib.ListN.{length, take}
 use borrow.Author.Needs.{needs}
 use Rattle.book.specs.Answers.{Buffers}
 use Rattle.io.specs.Counts.{Counts}
-use Rattle.printing.proofs.Puts.{put-within}
+use Rattle.puts.proofs.Puts.{put-within}
 use Rattle.program.proofs.Fits.{piece-stands}
 use Rattle.program.specs.Program.{Run, Prints}
 use Rattle.bench_run.specs.Turns.{Writes}

@@ -1,0 +1,2 @@
+-- What an answer makes of the count.
+pub mod Counts

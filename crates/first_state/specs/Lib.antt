@@ -1,0 +1,2 @@
+-- The state at the start.
+pub mod First

@@ -1,0 +1,2 @@
+-- Reading: a header by the tests of the code.
+pub mod Reading

@@ -1,0 +1,2 @@
+-- The header of the program's input.
+pub mod Headers

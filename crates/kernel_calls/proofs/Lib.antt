@@ -1,0 +1,2 @@
+-- Plain: a call's number is its outcome's.
+pub mod Plain

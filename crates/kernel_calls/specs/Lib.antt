@@ -1,0 +1,2 @@
+-- The contract of a call that tells an answer as one number.
+pub mod Tells

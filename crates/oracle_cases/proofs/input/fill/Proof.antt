@@ -1,0 +1,33 @@
+-- `oracle_cases::input::fill` is safe and ends: the places left fall. Assumes nothing.
+use Prim.Native.Nat.{_≤_, _-_}
+use mathlib.Core.Path.{_≡_}
+use lib.ListN.{length}
+use borrow.Author.Needs.{needs}
+use Rattle.oracle_cases.proofs.input.fill.Statement.{statement}
+use Rattle.oracle_cases.proofs.input.fill.Tie as tie
+
+abbrev Inv-loop : tie.InvT-loop
+Inv-loop into₀ count i₀ into i = (i ≤ count) × (length into ≡ length into₀)
+
+abbrev μ-loop : tie.MeasureT-loop
+μ-loop into₀ count i₀ into i = count - i
+
+pub fill-spec : {M : Type 1} → statement M
+fill-spec =
+    tie.close
+    (tie.spec
+    Inv-loop
+    μ-loop
+    (λ c. search needs)
+    (λ c. search needs)
+    (λ c. search needs)
+    (λ c κs. search needs)
+    (λ c. search needs)
+    (λ c. search needs)
+    (λ c. search needs)
+    (λ c. search needs)
+    (λ c. search needs)
+    (λ c. search needs)
+    (λ c. search needs)
+    (λ c. search needs)
+    (λ c. search needs))

@@ -1,0 +1,28 @@
+-- `oracle_cases::input::word` is safe and ends: the bytes left fall. Assumes nothing.
+use Prim.Native.Nat.{_≤_, _-_}
+use lib.ListN.{length}
+use borrow.Author.Needs.{needs}
+use Rattle.oracle_cases.proofs.input.word.Statement.{statement}
+use Rattle.oracle_cases.proofs.input.word.Tie as tie
+
+abbrev Inv-loop : tie.InvT-loop
+Inv-loop bytes bits₀ i₀ bits i = i ≤ length bytes
+
+abbrev μ-loop : tie.MeasureT-loop
+μ-loop bytes bits₀ i₀ bits i = length bytes - i
+
+pub word-spec : {M : Type 1} → statement M
+word-spec =
+    tie.close
+    (tie.spec
+    Inv-loop
+    μ-loop
+    (λ c. search needs)
+    (λ c. search needs)
+    (λ c κs. search needs)
+    (λ c. search needs)
+    (λ c. search needs)
+    (λ c. search needs)
+    (λ c. search needs)
+    (λ c. search needs)
+    (λ c. search needs))

@@ -1,0 +1,2 @@
+-- Puts: words put one behind the other.
+pub mod Puts

@@ -1,0 +1,2 @@
+-- How far a buffer holds words.
+pub mod Put
