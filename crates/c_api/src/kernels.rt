@@ -1,9 +1,15 @@
-// The kernels of gates.rs and measurement.rs. `ones` has a bit set for each control.
+// The kernels of gates.rs and measurement.rs. `ones` has a bit set for each control; its Controls is written out, so that `search` proves each wrapper.
+use answers::tell;
+use book::Angle;
+use book::Angles;
+use book::Controls;
+use book::Forced;
 use book::Gate;
+use book::Noise;
 ghost use Rattle.book.specs.Calls.{act};
 ghost use Rattle.book.specs.Lent.{before, after};
 ghost use Rattle.book.specs.State.{controlled};
-ghost use Rattle.kernel_calls.specs.Tells.{Tells, eight};
+ghost use Rattle.c_api.specs.Tells.{Tells, eight};
 
 // s0 and s1 exchanged; any number of controls.
 #[no_mangle]
@@ -16,7 +22,7 @@ pub extern "C" fn gate_bench_x_apply(
 ) -> u32
     ensures { λ r. ⌜ Tells (act n (Gate.X target (controlled ones)) (before reals imags)) r (after reals imags) ⌝ }
 {
-    kernel_calls::x_apply(reals, imags, n, target, ones)
+    tell(gates::x_apply(reals, imags, n, target, Controls { ones }))
 }
 
 // Up to one control.
@@ -30,7 +36,7 @@ pub extern "C" fn gate_bench_y_apply(
 ) -> u32
     ensures { λ r. ⌜ Tells (act n (Gate.Y target (controlled ones)) (before reals imags)) r (after reals imags) ⌝ }
 {
-    kernel_calls::y_apply(reals, imags, n, target, ones)
+    tell(gates::y_apply(reals, imags, n, target, Controls { ones }))
 }
 
 // No controls.
@@ -44,7 +50,7 @@ pub extern "C" fn gate_bench_z_apply(
 ) -> u32
     ensures { λ r. ⌜ Tells (act n (Gate.Z target (controlled ones)) (before reals imags)) r (after reals imags) ⌝ }
 {
-    kernel_calls::z_apply(reals, imags, n, target, ones)
+    tell(gates::z_apply(reals, imags, n, target, Controls { ones }))
 }
 
 // Up to one control.
@@ -58,7 +64,7 @@ pub extern "C" fn gate_bench_h_apply(
 ) -> u32
     ensures { λ r. ⌜ Tells (act n (Gate.H target (controlled ones)) (before reals imags)) r (after reals imags) ⌝ }
 {
-    kernel_calls::h_apply(reals, imags, n, target, ones)
+    tell(gates::h_apply(reals, imags, n, target, Controls { ones }))
 }
 
 // Any number of controls.
@@ -74,7 +80,14 @@ pub extern "C" fn gate_bench_p_apply(
 ) -> u32
     ensures { λ r. ⌜ Tells (act n (Gate.P target (controlled ones) (record { cosine = cosine; sine = sine })) (before reals imags)) r (after reals imags) ⌝ }
 {
-    kernel_calls::p_apply(reals, imags, n, target, ones, cosine, sine)
+    tell(gates::p_apply(
+        reals,
+        imags,
+        n,
+        target,
+        Controls { ones },
+        Angle { cosine, sine },
+    ))
 }
 
 // The angle is the half angle, here and below. Any number of controls.
@@ -90,7 +103,14 @@ pub extern "C" fn gate_bench_rx_apply(
 ) -> u32
     ensures { λ r. ⌜ Tells (act n (Gate.Rx target (controlled ones) (record { cosine = cosine; sine = sine })) (before reals imags)) r (after reals imags) ⌝ }
 {
-    kernel_calls::rx_apply(reals, imags, n, target, ones, cosine, sine)
+    tell(gates::rx_apply(
+        reals,
+        imags,
+        n,
+        target,
+        Controls { ones },
+        Angle { cosine, sine },
+    ))
 }
 
 // Any number of controls.
@@ -106,7 +126,14 @@ pub extern "C" fn gate_bench_ry_apply(
 ) -> u32
     ensures { λ r. ⌜ Tells (act n (Gate.Ry target (controlled ones) (record { cosine = cosine; sine = sine })) (before reals imags)) r (after reals imags) ⌝ }
 {
-    kernel_calls::ry_apply(reals, imags, n, target, ones, cosine, sine)
+    tell(gates::ry_apply(
+        reals,
+        imags,
+        n,
+        target,
+        Controls { ones },
+        Angle { cosine, sine },
+    ))
 }
 
 // Up to one control.
@@ -122,7 +149,14 @@ pub extern "C" fn gate_bench_rz_apply(
 ) -> u32
     ensures { λ r. ⌜ Tells (act n (Gate.Rz target (controlled ones) (record { cosine = cosine; sine = sine })) (before reals imags)) r (after reals imags) ⌝ }
 {
-    kernel_calls::rz_apply(reals, imags, n, target, ones, cosine, sine)
+    tell(gates::rz_apply(
+        reals,
+        imags,
+        n,
+        target,
+        Controls { ones },
+        Angle { cosine, sine },
+    ))
 }
 
 // The eight numbers of U, in 01's order. Up to one control.
@@ -144,21 +178,23 @@ pub extern "C" fn gate_bench_u_apply(
 ) -> u32
     ensures { λ r. ⌜ Tells (act n (Gate.U target (controlled ones) (eight ct st cl sl cpl spl cp sp)) (before reals imags)) r (after reals imags) ⌝ }
 {
-    kernel_calls::u_apply(
+    tell(gates::u_apply(
         reals,
         imags,
         n,
         target,
-        ones,
-        ct,
-        st,
-        cl,
-        sl,
-        cpl,
-        spl,
-        cp,
-        sp,
-    )
+        Controls { ones },
+        Angles {
+            ct,
+            st,
+            cl,
+            sl,
+            cpl,
+            spl,
+            cp,
+            sp,
+        },
+    ))
 }
 
 // The qubits t0 and t1 exchanged.
@@ -172,7 +208,7 @@ pub extern "C" fn gate_bench_swap_apply(
 ) -> u32
     ensures { λ r. ⌜ Tells (act n (Gate.Swap t0 t1) (before reals imags)) r (after reals imags) ⌝ }
 {
-    kernel_calls::swap_apply(reals, imags, n, t0, t1)
+    tell(gates::swap_apply(reals, imags, n, t0, t1))
 }
 
 // X if draw <= prob, else nothing; the value is 1 if X ran.
@@ -187,7 +223,7 @@ pub extern "C" fn gate_bench_bit_flip_noise_apply(
 ) -> u32
     ensures { λ r. ⌜ Tells (act n (Gate.BitFlip target (record { prob = prob; draw = draw })) (before reals imags)) r (after reals imags) ⌝ }
 {
-    kernel_calls::bit_flip_noise_apply(reals, imags, n, target, prob, draw)
+    tell(gates::bit_flip_noise_apply(reals, imags, n, target, Noise { prob, draw }))
 }
 
 // A forced measurement; the value is the outcome.
@@ -202,5 +238,5 @@ pub extern "C" fn gate_bench_measure_qubit(
 ) -> u32
     ensures { λ r. ⌜ Tells (act n (Gate.Measure target (record { outcome = outcome; reset = reset })) (before reals imags)) r (after reals imags) ⌝ }
 {
-    kernel_calls::measure_qubit(reals, imags, n, target, outcome, reset)
+    tell(measurement::measure_qubit(reals, imags, n, target, Forced { outcome, reset }))
 }

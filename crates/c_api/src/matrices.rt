@@ -4,8 +4,7 @@ use book::Amplitude;
 use book::Matrix;
 ghost use Rattle.book.specs.Lent.{before, after};
 ghost use Rattle.book.specs.Matrices.{gateMatrix, conjugateTranspose, product, productState};
-ghost use Rattle.c_api.specs.Tells.{fourEntries};
-ghost use Rattle.kernel_calls.specs.Tells.{Tells};
+ghost use Rattle.c_api.specs.Tells.{Tells, fourEntries};
 
 // The matrix of a gate on the target, from the gate's own four entries, row by row.
 #[no_mangle]

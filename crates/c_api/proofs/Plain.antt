@@ -3,7 +3,7 @@ use Prim.Native.Nat.{ℕ}
 use mathlib.Core.Path.{_≡_, sym, ap, _∙_}
 use Rattle.answers.specs.Told.{saidNumber}
 use Rattle.book.specs.Answers.{Buffers, Outcome}
-use Rattle.kernel_calls.specs.Tells.{Tells, TellsPlainly}
+use Rattle.c_api.specs.Tells.{Tells, TellsPlainly}
 
 pub tells-plainly : TellsPlainly
 tells-plainly o code after t = (t .tells ∙ ap saidNumber (t .does .answers), t .does .leaves)

@@ -1,2 +1,0 @@
--- Plain: a call's number is its outcome's.
-pub mod Plain
