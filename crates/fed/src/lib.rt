@@ -8,17 +8,17 @@ use book::Angles;
 use book::Answer;
 use book::Matrix;
 use book::Pair;
-use fused_rules::Uppers;
 use fused_rules::p_upper;
 use fused_rules::p_uppers;
 use fused_rules::rz_rule;
-use fused_rules::u_rule;
 use rules::z_upper;
+use splits::Uppers;
+use u_rules::u_rule;
 ghost use mathlib.Core.Path.{_≡_};
 ghost use Rattle.book.specs.Gates.{angleOf, finiteTests};
 ghost use Rattle.book.specs.State.{pair};
 ghost use Rattle.seated.specs.Judging.{Judges};
-ghost use Rattle.fused_rules.specs.Splits.{RzSplit, USplit, PSplit};
+ghost use Rattle.splits.specs.Splits.{RzSplit, USplit, PSplit};
 ghost use Rattle.fed.specs.Named.{mostOf, ownOf, fusedOf, upperMost, upperOwn, upperOf};
 
 // The gates that change both places of a pair: those that need no F first.

@@ -1,3 +1,2 @@
--- What P makes of s1, and what the rules of RZ and U ask.
+-- What P makes of s1.
 pub mod Uppers
-pub mod Splits

@@ -10,7 +10,7 @@ use rules::z_upper;
 ghost use lib.ListN.{length};
 ghost use mathlib.Core.Path.{_≡_};
 ghost use Rattle.book.specs.Lent.{before, after, here};
-ghost use Rattle.fused_rules.specs.Splits.{PSplit};
+ghost use Rattle.splits.specs.Splits.{PSplit};
 ghost use Rattle.rules.specs.Rules.{zUpper};
 ghost use Rattle.halves.specs.Halves.{turnedAt, HalfTurned, Half, Even};
 

@@ -4,15 +4,15 @@ use book::Angle;
 use book::Matrix;
 use fed::Fed;
 use fed::put;
-use fused_rules::Uppers;
-use fused_rules::split;
 use pairs::read_pair;
 use pairs::write_pair;
 use rules::u_matrix;
+use splits::Uppers;
+use splits::split;
 ghost use Rattle.book.specs.Lent.{before, after, here, SameSize};
 ghost use Rattle.book.specs.State.{at};
 ghost use Rattle.fed.specs.Named.{fusedOf, putOf};
-ghost use Rattle.fused_rules.specs.Splits.{RzSplit, USplit};
+ghost use Rattle.splits.specs.Splits.{RzSplit, USplit};
 ghost use Rattle.pairs.specs.Pairs.{TwoPlaces, PairPut, Keyed, Swept};
 
 fn step(

@@ -1,10 +1,10 @@
--- `fused_rules::u_one_by_one` meets its contract: the ten values of F, each within the next. Assumes nothing.
+-- `u_rules::u_one_by_one` meets its contract: the ten values of F, each within the next. Assumes nothing.
 use mathlib.Core.Path.{ap, ap₂, _∙_}
 use borrow.Author.Needs.{needs}
 use Rattle.book.specs.Gates.{F, −_, entry}
 use Rattle.book.specs.State.{amplitude, pair}
-use Rattle.fused_rules.proofs.u_one_by_one.Statement.{statement}
-use Rattle.fused_rules.proofs.u_one_by_one.Tie as tie
+use Rattle.u_rules.proofs.u_one_by_one.Statement.{statement}
+use Rattle.u_rules.proofs.u_one_by_one.Tie as tie
 
 returns : tie.Need-returns
 returns c =

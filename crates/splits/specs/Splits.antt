@@ -7,7 +7,7 @@ use Rattle.abreast.specs.Split.{Split, Beside}
 use Rattle.book.specs.Gates.{−_, entry}
 use Rattle.book.specs.declared.Angle.{Angle}
 use Rattle.book.specs.declared.Matrix.{Matrix}
-use Rattle.fused_rules.specs.declared.Uppers.{Uppers}
+use Rattle.splits.specs.declared.Uppers.{Uppers}
 
 pub record RzSplit (angle : Angle) (h : Uppers) : Type 0 where
   pub k : Beside (angle .cosine) (angle .sine) (h .k)

@@ -1,10 +1,10 @@
--- `fused_rules::split` meets its contract: where p's upper part is there, the others are. Assumes nothing.
+-- `splits::split` meets its contract: where p's upper part is there, the others are. Assumes nothing.
 use mathlib.Core.Path.{sym, subst}
 use borrow.Author.Needs.{needs}
 use lib.Ieee.{binary64}
 use Rattle.exact.specs.Steps.{Halved}
-use Rattle.fused_rules.proofs.split.Statement.{statement}
-use Rattle.fused_rules.proofs.split.Tie as tie
+use Rattle.splits.proofs.split.Statement.{statement}
+use Rattle.splits.proofs.split.Tie as tie
 
 returns : tie.Need-returns
 returns c =

@@ -1,4 +1,4 @@
--- `fused_rules::u_rule` meets its contract: the ten values of F, each within the next. Where the numbers are 2 at most in size, a term is 4 at most, and what
+-- `u_rules::u_rule` meets its contract: the ten values of F, each within the next. Where the numbers are 2 at most in size, a term is 4 at most, and what
 -- stands behind one F or two is 16 at most, so sides that meet are F. 01 has the matrix's number first, the short way has it second. Assumes nothing.
 use Prim.Native.Nat.{ℕ, suc, _+_, _≤_}
 use mathlib.Core.Path.{_≡_, refl, ap, ap₂, _∙_}
@@ -14,9 +14,9 @@ use Rattle.abreast.proofs.Swapped.{swapped}
 use Rattle.abreast.proofs.Terms.{Around}
 use Rattle.book.specs.Gates.{F}
 use Rattle.book.specs.State.{amplitude, pair}
-use Rattle.fused_rules.specs.Splits.{UWhole}
-use Rattle.fused_rules.proofs.u_rule.Statement.{statement}
-use Rattle.fused_rules.proofs.u_rule.Tie as tie
+use Rattle.splits.specs.Splits.{UWhole}
+use Rattle.u_rules.proofs.u_rule.Statement.{statement}
+use Rattle.u_rules.proofs.u_rule.Tie as tie
 
 -- ---- how large a term is: 2 ^ j at most, and one F more, 2 ^ (1 + j)
 abbrev Most : ℕ → Float → Type 0

@@ -1,9 +1,9 @@
--- `fused_rules::with_all` meets its contract: 0 is no upper part. Assumes nothing.
+-- `splits::with_all` meets its contract: 0 is no upper part. Assumes nothing.
 use mathlib.Core.Bool.{not, true≢false}
 use mathlib.Core.Path.{refl, sym, ap}
 use lib.Ieee.{eq, ne, ofBits}
-use Rattle.fused_rules.proofs.with_all.Statement.{statement}
-use Rattle.fused_rules.proofs.with_all.Tie as tie
+use Rattle.splits.proofs.with_all.Statement.{statement}
+use Rattle.splits.proofs.with_all.Tie as tie
 
 pub with-all-spec : {M : Type 1} → statement M
 unfolding eq ne ofBits
