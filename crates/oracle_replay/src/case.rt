@@ -1,14 +1,41 @@
 // One case: its head says what is called, on how many qubits, and so how many floats follow, and where each operand stands among them.
+use crate::input::fill;
 use crate::run::run_case;
 use libc::STDIN_FILENO;
-use oracle_cases::GATE_MATRIX;
-use oracle_cases::Head;
-use oracle_cases::Layout;
-use oracle_cases::PRODUCT;
-use oracle_cases::RECORD;
-use oracle_cases::TRANSPOSE;
-use oracle_cases::Verdict;
-use oracle_cases::fill;
+
+pub(crate) enum Verdict {
+    Same,
+    Different,
+    Unread,
+    End,
+}
+
+// What is called. given is the answer that is expected, or the target of a gate's matrix; length is the record's.
+pub(crate) struct Head {
+    pub(crate) kind: u8,
+    pub(crate) n: u8,
+    pub(crate) given: u8,
+    pub(crate) length: u8,
+}
+
+// How many places the first operand has, and how many the second and what is wanted; where the parts of these two start, and where all ends.
+pub(crate) struct Layout {
+    pub(crate) first: usize,
+    pub(crate) places: usize,
+    pub(crate) reals: usize,
+    pub(crate) imags: usize,
+    pub(crate) wanted_reals: usize,
+    pub(crate) wanted_imags: usize,
+    pub(crate) end: usize,
+}
+
+pub(crate) const RECORD: u8 = 1;
+
+pub(crate) const GATE_MATRIX: u8 = 2;
+
+pub(crate) const TRANSPOSE: u8 = 3;
+
+pub(crate) const PRODUCT: u8 = 4;
 
 const STATE_PRODUCT: u8 = 5;
 

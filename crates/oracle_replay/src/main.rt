@@ -1,12 +1,14 @@
 // Replays a sample of the given Rust's answers, read from standard input, and prints how many cases there were and how many differ in any bit.
 // docs/VECTORS-ORACLE.md has the format, and how the sample was made. What cannot be read as a case is counted as unread, and nothing behind it is read.
 mod case;
+mod floats;
+mod input;
 mod record;
 mod run;
 
+use case::Verdict;
 use case::read_case;
 use libc::STDOUT_FILENO;
-use oracle_cases::Verdict;
 ghost use Prim.Native.Nat.{_<_};
 
 struct Tally {

@@ -1,9 +1,9 @@
 // The record of a case, delivered to a new session.
+use crate::case::Head;
 use crate::case::SLOT;
+use crate::case::Verdict;
 use book::Reply;
 use libc::STDIN_FILENO;
-use oracle_cases::Head;
-use oracle_cases::Verdict;
 use sessions::Session;
 use sessions::Started;
 

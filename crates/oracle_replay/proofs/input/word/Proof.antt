@@ -1,9 +1,9 @@
--- `oracle_cases::input::word` is safe and ends: the bytes left fall. Assumes nothing.
+-- `oracle_replay::input::word` is safe and ends: the bytes left fall. Assumes nothing.
 use Prim.Native.Nat.{_≤_, _-_}
 use lib.ListN.{length}
 use borrow.Author.Needs.{needs}
-use Rattle.oracle_cases.proofs.input.word.Statement.{statement}
-use Rattle.oracle_cases.proofs.input.word.Tie as tie
+use Rattle.oracle_replay.proofs.input.word.Statement.{statement}
+use Rattle.oracle_replay.proofs.input.word.Tie as tie
 
 abbrev Inv-loop : tie.InvT-loop
 Inv-loop bytes bits₀ i₀ bits i = i ≤ length bytes

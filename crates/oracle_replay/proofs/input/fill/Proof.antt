@@ -1,10 +1,10 @@
--- `oracle_cases::input::fill` is safe and ends: the places left fall. Assumes nothing.
+-- `oracle_replay::input::fill` is safe and ends: the places left fall. Assumes nothing.
 use Prim.Native.Nat.{_≤_, _-_}
 use mathlib.Core.Path.{_≡_}
 use lib.ListN.{length}
 use borrow.Author.Needs.{needs}
-use Rattle.oracle_cases.proofs.input.fill.Statement.{statement}
-use Rattle.oracle_cases.proofs.input.fill.Tie as tie
+use Rattle.oracle_replay.proofs.input.fill.Statement.{statement}
+use Rattle.oracle_replay.proofs.input.fill.Tie as tie
 
 abbrev Inv-loop : tie.InvT-loop
 Inv-loop into₀ count i₀ into i = (i ≤ count) × (length into ≡ length into₀)

@@ -1,9 +1,9 @@
--- `oracle_cases::floats::same` is safe and ends: the places left fall. Assumes nothing.
+-- `oracle_replay::floats::same` is safe and ends: the places left fall. Assumes nothing.
 use Prim.Native.Nat.{_≤_, _-_}
 use lib.ListN.{length}
 use borrow.Author.Needs.{needs}
-use Rattle.oracle_cases.proofs.floats.same.Statement.{statement}
-use Rattle.oracle_cases.proofs.floats.same.Tie as tie
+use Rattle.oracle_replay.proofs.floats.same.Statement.{statement}
+use Rattle.oracle_replay.proofs.floats.same.Tie as tie
 
 abbrev Inv-loop : tie.InvT-loop
 Inv-loop found floats at from₀ i₀ from i = i ≤ length found

@@ -1,10 +1,10 @@
--- `oracle_cases::floats::copy` is safe and ends: the places left fall. Assumes nothing.
+-- `oracle_replay::floats::copy` is safe and ends: the places left fall. Assumes nothing.
 use Prim.Native.Nat.{_≤_, _-_}
 use mathlib.Core.Path.{_≡_}
 use lib.ListN.{length}
 use borrow.Author.Needs.{needs}
-use Rattle.oracle_cases.proofs.floats.copy.Statement.{statement}
-use Rattle.oracle_cases.proofs.floats.copy.Tie as tie
+use Rattle.oracle_replay.proofs.floats.copy.Statement.{statement}
+use Rattle.oracle_replay.proofs.floats.copy.Tie as tie
 
 abbrev Inv-loop : tie.InvT-loop
 Inv-loop into₀ floats at from₀ i₀ into from i = (i ≤ length into₀) × (length into ≡ length into₀)

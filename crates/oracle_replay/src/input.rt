@@ -37,7 +37,7 @@ fn read_number() -> Number {
 }
 
 // So many places are read, or the input ends before, or there are not so many.
-pub fn fill(into: &mut [f64], count: usize) -> bool {
+pub(crate) fn fill(into: &mut [f64], count: usize) -> bool {
     let mut i: usize = 0;
     while i < count {
         if into.len() <= i {

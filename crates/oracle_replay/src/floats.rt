@@ -12,7 +12,7 @@ pub(crate) fn part(floats: &[f64], at: usize, count: usize) -> &[f64] {
 }
 
 // Each place of a buffer, as far as there are floats from one on.
-pub fn copy(into: &mut [f64], floats: &[f64], at: usize) {
+pub(crate) fn copy(into: &mut [f64], floats: &[f64], at: usize) {
     let mut from = at;
     let mut i: usize = 0;
     while i < into.len() {
