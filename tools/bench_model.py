@@ -1,5 +1,5 @@
 #!/usr/bin/env python3
-"""Another program for what gate_bench prints, written from document 01 alone: exact whole numbers for F and the root, float64 for + - * /.
+"""Another program for what gate_bench prints, written from documents 01 and 02 alone: exact whole numbers for F and the root, float64 for + - * /.
 
   bench_model.py run < INPUT > OUTPUT        what the program must print
   bench_model.py make NAME [SEED] > INPUT    an input; `bench_model.py names` lists the names
@@ -189,11 +189,10 @@ class Bench:
         outcome, reset = given
         if outcome > 1 or reset > 1:
             return 6, None
-        p0 = 0.0
+        p = 0.0
         for i in range(1 << n):
-            if not i >> target & 1:
-                p0 += self.re[i] * self.re[i] + self.im[i] * self.im[i]
-        p = 1.0 - p0 if outcome else p0
+            if i >> target & 1 == outcome:
+                p += self.re[i] * self.re[i] + self.im[i] * self.im[i]
         if not math.isfinite(p) or p <= 0:
             return 7, None
         r = 1.0 / root(p)
@@ -464,6 +463,37 @@ def make_refusals(seed):
     return m.data
 
 
+def make_measured(outcome):
+    """Three H leave a state off length 1: this outcome, and then the other, whose half holds zeros by now."""
+    def made(seed):
+        m = Maker(1, 3, seed)
+        for _ in range(3):
+            m.next(1, 0)
+        m.next(11, 0, 0, (outcome, 0))
+        m.next(11, 0, 0, (1 - outcome, 0))
+        return m.data
+    return made
+
+
+def make_half_of_zeros(seed):
+    """0.5 at index 0 and nothing else: outcome 1 is refused, with reset and without, though 1-p0 is .75; outcome 0 is taken."""
+    m = Maker(1, 3, seed)
+    m.next(7, 0, 0, (0.5, 0.0))
+    for given in ((1, 0), (1, 1), (0, 0)):
+        m.next(11, 0, 0, given)
+    return m.data
+
+
+def make_other_half(seed):
+    """The half that is not asked for holds an infinity and a NaN, and nobody looks at it."""
+    m = Maker(2, 3, seed)
+    huge = of_bits(0x7FEFFFFFFFFFFFFF)
+    for code, target, mask, given in ((1, 0, 0, None), (1, 1, 0, None), (2, 0, 0, None), (5, 0, 0, (huge, 0.0)), (5, 0, 0, (huge, 0.0)),
+                                      (5, 0, 2, (huge, 0.0)), (2, 0, 0, None), (11, 0, 0, (0, 0)), (11, 0, 0, (1, 0)), (11, 0, 0, (0, 0))):
+        m.next(code, target, mask, given)
+    return m.data
+
+
 def make_eleven(seed):
     m = Maker(11, 11, seed)
     m.next(1, 10)
@@ -533,6 +563,10 @@ MAKE = {
     'gates_1': make_gates(1, 1),
     'gates_5': make_gates(5, 5),
     'specials': make_specials,
+    'measured_0': make_measured(0),
+    'measured_1': make_measured(1),
+    'half_of_zeros': make_half_of_zeros,
+    'other_half': make_other_half,
     'refusals': make_refusals,
     'eleven': make_eleven,
     'many': make_many,

@@ -1,4 +1,4 @@
--- The twelve examples hold: antt works out one test over the whole list, and a lemma turns the test into each equation. Assumes nothing.
+-- The examples hold: antt works out one test over the whole list, and a lemma turns the test into each equation. Assumes nothing.
 use Prim.Native.Nat.{ℕ}
 use mathlib.Core.Bool.{Bool, true, false, _&&_}
 use mathlib.Core.List.{List, [], _∷_}
@@ -9,7 +9,7 @@ use lib.Ieee.{add, sub, mul, div, le, lt, eq}
 use lib.Ieee.Fits.{and-l, and-r}
 use Rattle.numbers.specs.Fused.{fused, root}
 use Rattle.book.specs.Answers.{first}
-use Rattle.book.specs.Examples.{Example, Hold, twelve}
+use Rattle.book.specs.Examples.{Example, Hold, twelve, since}
 use Rattle.book.specs.Kernels.{sizeTests, seatTests, swapped}
 use Rattle.book.specs.Measuring.{measured, probability, summed}
 use Rattle.book.specs.Records.{listed}
@@ -43,3 +43,7 @@ pub all-twelve : Hold twelve
 unfolding twelve fused root first sizeTests seatTests swapped measured probability summed listed deliver tabulate held chosen choice placed onPairs
     le lt eq div add sub mul ones
 all-twelve = right-hold twelve tt
+
+pub all-since : Hold since
+unfolding since root first sizeTests measured probability summed tabulate held chosen choice placed onPairs le lt eq div add sub mul
+all-since = right-hold since tt

@@ -1,4 +1,5 @@
--- The twelve examples of 01, "Proved examples": one list, and one statement over it; proofs/Examples.antt proves it. Definitions only. Assumes nothing.
+-- The twelve examples of 01, "Proved examples", and those that requests of 02 add: lists, and one statement over a list; proofs/Examples.antt proves it.
+-- Definitions only. Assumes nothing.
 -- An f64 is shown by its bits.
 use Prim.Native.Nat.{ℕ}
 use mathlib.Core.List.{List, [], _∷_, _++_, map}
@@ -7,7 +8,7 @@ use lib.Ieee.{Float, binary64, ofInt, ofBits, toBits, neg}
 use lib.IntN.{pos}
 use lib.ListN.{take}
 use Rattle.numbers.specs.Fused.{root}
-use Rattle.book.specs.Answers.{Buffers, buffers, Outcome}
+use Rattle.book.specs.Answers.{Said, taken, value, refused, Buffers, buffers, Outcome}
 use Rattle.book.specs.Calls.{act}
 use Rattle.book.specs.Gates.{F}
 use Rattle.book.specs.Records.{writeRecord}
@@ -64,14 +65,30 @@ counts s b (bytes ∷ more) =
     let d = deliver s b bytes in
     d .next .count ∷ counts (d .next) (d .left) more
 
+-- a refusal's number
+abbrev pub refusal : Said → List ℕ
+refusal taken = []
+refusal (value v) = []
+refusal (refused k) = k ∷ []
+
 abbrev pub eightReals : Buffers
 eightReals = real (1 ∷ 2 ∷ 3 ∷ 4 ∷ 5 ∷ 6 ∷ 7 ∷ 8 ∷ [])
 
 abbrev pub hTwice : Outcome
 hTwice = act 1 (H 0 uncontrolled) (act 1 (H 0 uncontrolled) (real (1 ∷ 0 ∷ [])) .left)
 
+abbrev pub half : Float
+half = ofBits64 0x3FE0000000000000
+
 abbrev pub halves : Buffers
-halves = buffers (ofBits64 0x3FE0000000000000 ∷ ofBits64 0x3FE0000000000000 ∷ []) (whole 0 ∷ whole 0 ∷ [])
+halves = buffers (half ∷ half ∷ []) (whole 0 ∷ whole 0 ∷ [])
+
+abbrev pub halfOfZeros : Buffers
+halfOfZeros = buffers (half ∷ whole 0 ∷ []) (whole 0 ∷ whole 0 ∷ [])
+
+-- a state of one qubit, measured with this outcome forced
+abbrev pub forced : ℕ → Buffers → Outcome
+forced outcome = act 1 (Measure 0 (record { outcome = outcome; reset = 0 }))
 
 abbrev pub yOnOne : Outcome
 yOnOne = act 1 (Y 0 uncontrolled) (buffers (whole 1 ∷ whole 3 ∷ []) (whole 2 ∷ whole 4 ∷ []))
@@ -90,12 +107,19 @@ twelve =
     ∷ (reals yOnOne ++ imags yOnOne) is bits (whole 4 ∷ minus 2 ∷ minus 3 ∷ whole 1 ∷ [])
     ∷ take 1 (reals hTwice) is (0x3FF0000000000001 ∷ [])
     ∷ reals (act 3 (Swap 0 2) eightReals) is bits (map whole (1 ∷ 5 ∷ 3 ∷ 7 ∷ 2 ∷ 6 ∷ 4 ∷ 8 ∷ []))
-    ∷ reals (act 1 (Measure 0 (record { outcome = 0; reset = 0 })) halves) is bits (map whole (1 ∷ 0 ∷ []))
+    ∷ reals (forced 0 halves) is bits (map whole (1 ∷ 0 ∷ []))
     ∷ writeRecord (record { session = 7; number = 0; gate = X 1 (controlled 4) })
     is (0x01 ∷ 0x00 ∷ 0x04 ∷ 0x00 ∷ 0x00 ∷ 0x00 ∷ 0x07 ∷ 0x02 ∷ 0x00 ∷ 0x02 ∷ 0x00 ∷ 0x00 ∷ 0x03 ∷ 0x00 ∷ 0x01 ∷ 0x02
     ∷ 0x04 ∷ 0x00 ∷ 0x01 ∷ 0x01 ∷ 0x05 ∷ 0x00 ∷ 0x04 ∷ 0x00 ∷ 0x00 ∷ 0x00 ∷ 0x04 ∷ [])
     ∷ counts (session 1 7 0) (real (1 ∷ 0 ∷ [])) (map (λ k. writeRecord (xNumbered k)) (0 ∷ 0 ∷ 2 ∷ 1 ∷ [])) is (1 ∷ 1 ∷ 1 ∷ 2 ∷ [])
     ∷ []
+
+-- ---- of document 02
+
+-- request 03: 1, 2 is off length 1, and outcome 1 is scaled by its own half; a half of zeros is refused with 7
+unfoldable pub since : List Example
+unfolding ofInt ofBits toBits
+since = reals (forced 1 (real (1 ∷ 2 ∷ []))) is bits (map whole (0 ∷ 1 ∷ [])) ∷ refusal (forced 1 halfOfZeros .says) is (7 ∷ []) ∷ []
 
 -- each example of a list holds
 abbrev pub Hold : List Example → Type 0

@@ -9,7 +9,7 @@ use lib.Ieee.{Float, binary64}
 use lib.Ieee.Scale.{finite}
 use Rattle.numbers.specs.Fused as Fused
 use Rattle.book.specs.Answers.{_⇒_, Buffers, Call, call}
-use Rattle.book.specs.Gates.{_⊕_, _⊖_, _⊗_, nought, one, xRule}
+use Rattle.book.specs.Gates.{_⊕_, _⊗_, nought, one, xRule}
 use Rattle.book.specs.State.{State, amplitude, at, held, bit, uncontrolled, onPairs}
 use Rattle.book.specs.declared.Amplitude.{Amplitude}
 use Rattle.book.specs.declared.Forced.{Forced}
@@ -23,12 +23,9 @@ unfoldable pub summed : ℕ → ℕ → State → ℕ → Float
 summed target b s zero = nought
 summed target b s (suc i) = let so-far = summed target b s i in cond (eqb (bit target i) b) (so-far ⊕ square (s i)) so-far
 
--- p0, and p1 = 1-p0
+-- p0 and p1
 unfoldable pub probability : ℕ → ℕ → ℕ → State → Float
-unfolding summed
-probability n target outcome s =
-    let p0 = summed target 0 s (2 ^ n) in
-    cond (eqb outcome 0) p0 (one ⊖ p0)
+probability n target outcome s = summed target outcome s (2 ^ n)
 
 -- the chosen half is multiplied by r, and the other half becomes +0.0
 abbrev pub collapsed : ℕ → ℕ → Float → State → State

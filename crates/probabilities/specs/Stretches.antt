@@ -1,9 +1,11 @@
--- Stretches of places of both buffers. Definitions only. Assumes nothing.
-use Prim.Native.Nat.{ℕ, _≤_, _<_}
-use mathlib.Core.Path.{_≡_}
+-- Stretches of places of both buffers, and the sum over one. Definitions only. Assumes nothing.
+use Prim.Native.Nat.{ℕ, zero, suc, _+_, _≤_}
+use lib.Ieee.{Float}
 use lib.ListN.{length}
 use Rattle.book.specs.Answers.{Buffers}
-use Rattle.book.specs.State.{bit}
+use Rattle.book.specs.Gates.{_⊕_}
+use Rattle.book.specs.Measuring.{square}
+use Rattle.book.specs.State.{State}
 
 -- from `from` on and below `to`
 pub record Stretch (from to : ℕ) (b : Buffers) : Type 0 where
@@ -11,7 +13,7 @@ pub record Stretch (from to : ℕ) (b : Buffers) : Type 0 where
   pub reals : to ≤ length (b .reals)
   pub imags : to ≤ length (b .imags)
 
--- and their target bit is 0
-pub record Lower (target from to : ℕ) (b : Buffers) : Type 0 where
-  pub stretch : Stretch from to b
-  pub low : (i : ℕ) → from ≤ i → i < to → bit target i ≡ 0
+-- the squares of `size` places from `from` on, added to start, rising
+unfoldable pub added : State → ℕ → Float → ℕ → Float
+added s from start zero = start
+added s from start (suc k) = added s from start k ⊕ square (s (from + k))

@@ -3,7 +3,7 @@ use crate::calls::{Call, Gate};
 use crate::cases;
 use crate::matrices::{self, Parts};
 use crate::random::Random;
-use crate::states::{has_nan, same, state, Kind, KINDS};
+use crate::states::{has_nan, same, state, KINDS, MEASURED};
 use crate::{ours, rust};
 use gate_bench::{Answer, Refusal};
 use spinoza::core::State;
@@ -16,10 +16,12 @@ struct Row {
     different: u64,
     nan: u64,
     chance: u64,
+    other_way: u64,
 }
 
 pub struct Tally {
     rows: BTreeMap<String, Row>,
+    ones: u64,
     shown: u32,
 }
 
@@ -48,6 +50,10 @@ impl Tally {
         let mut theirs = State { reals: reals.to_vec(), imags: imags.to_vec(), n: call.n as u8 };
         let (mut re, mut im) = (reals.to_vec(), imags.to_vec());
         let answer = ours::run(call, &mut re, &mut im);
+        if !both_ways(call, reals, imags) {
+            self.row(name).other_way += 1;
+            return;
+        }
         if answer == Answer::Refused(Refusal::Chance) && impossible(call, reals, imags) {
             self.row(name).chance += 1;
             return;
@@ -58,6 +64,7 @@ impl Tally {
             return;
         }
         self.row(name).cases += 1;
+        self.ones += u64::from(forced(call) == Some(1));
         let bytes = ours::record(call);
         let (mut re2, mut im2) = (reals.to_vec(), imags.to_vec());
         let delivered = ours::deliver(call, &bytes, &mut re2, &mut im2);
@@ -90,15 +97,28 @@ pub fn expected(call: &Call) -> Answer {
     }
 }
 
-/// The forced outcome's probability is not above 0. The sums are exact, so their order does not matter.
+pub fn forced(call: &Call) -> Option<u8> {
+    match call.gate {
+        Gate::Measure(outcome, _) => Some(outcome),
+        _ => None,
+    }
+}
+
+/// The squares of the half with this target bit, added up. The sums are exact, so their order does not matter.
+fn half(call: &Call, bit: u8, reals: &[f64], imags: &[f64]) -> f64 {
+    let own = (0..reals.len()).filter(|i| i >> call.target & 1 == usize::from(bit));
+    own.map(|i| reals[i] * reals[i] + imags[i] * imags[i]).sum()
+}
+
+/// The forced outcome's probability is not above 0.
 pub fn impossible(call: &Call, reals: &[f64], imags: &[f64]) -> bool {
-    let Gate::Measure(outcome, _) = call.gate else {
-        return false;
-    };
-    let lower = (0..reals.len()).filter(|i| i >> call.target & 1 == 0);
-    let p0: f64 = lower.map(|i| reals[i] * reals[i] + imags[i] * imags[i]).sum();
-    let p = if outcome == 0 { p0 } else { 1.0 - p0 };
-    p <= 0.0
+    forced(call).is_some_and(|outcome| half(call, outcome, reals, imags) <= 0.0)
+}
+
+/// False where outcome 1 is forced and 1-p0, by which the Rust goes, has other bits than the sum over its half, which request 03 asks for.
+pub fn both_ways(call: &Call, reals: &[f64], imags: &[f64]) -> bool {
+    let by_the_rest = 1.0 - half(call, 0, reals, imags);
+    forced(call) != Some(1) || by_the_rest.to_bits() == half(call, 1, reals, imags).to_bits()
 }
 
 /// Every target and control for n up to 6, on every kind of state.
@@ -113,9 +133,9 @@ fn small(tally: &mut Tally, random: &mut Random) {
                 tally.call(&call, &reals, &imags);
             }
         }
-        for _ in 0..8 * ROUNDS {
+        for kind in MEASURED.repeat(8 * ROUNDS) {
             for call in cases::all_measurements(n) {
-                let (reals, imags) = state(Kind::Exact, random, 1 << n);
+                let (reals, imags) = state(kind, random, 1 << n);
                 tally.call(&call, &reals, &imags);
             }
         }
@@ -136,9 +156,11 @@ fn large(tally: &mut Tally, random: &mut Random) {
             let flips = cases::all_flips(n, random);
             tally.call(&flips[random.below(flips.len() as u64) as usize], &reals, &imags);
         }
-        for call in cases::all_measurements(n) {
-            let (reals, imags) = state(Kind::Exact, random, 1 << n);
-            tally.call(&call, &reals, &imags);
+        for kind in MEASURED {
+            for call in cases::all_measurements(n) {
+                let (reals, imags) = state(kind, random, 1 << n);
+                tally.call(&call, &reals, &imags);
+            }
         }
     }
 }
@@ -168,19 +190,21 @@ fn all_matrices(tally: &mut Tally, random: &mut Random) {
 /// Prints the table, and says whether nothing differed.
 pub fn run(seed: u64) -> bool {
     let mut random = Random(seed);
-    let mut tally = Tally { rows: BTreeMap::new(), shown: 0 };
+    let mut tally = Tally { rows: BTreeMap::new(), ones: 0, shown: 0 };
     small(&mut tally, &mut random);
     large(&mut tally, &mut random);
     all_matrices(&mut tally, &mut random);
-    println!("| call | compared | different | outside: NaN came out | outside: impossible outcome |\n|---|---|---|---|---|");
-    let (mut cases, mut different, mut outside) = (0, 0, 0);
+    println!("| call | compared | different | outside: NaN came out | outside: impossible outcome | outside: 1-p0 is not p1 |\n|---|---|---|---|---|---|");
+    let (mut cases, mut different, mut outside, mut other_way) = (0, 0, 0, 0);
     for (name, row) in &tally.rows {
-        println!("| {name} | {} | {} | {} | {} |", row.cases, row.different, row.nan, row.chance);
+        println!("| {name} | {} | {} | {} | {} | {} |", row.cases, row.different, row.nan, row.chance, row.other_way);
         cases += row.cases;
         different += row.different;
-        outside += row.nan + row.chance;
+        other_way += row.other_way;
+        outside += row.nan + row.chance + row.other_way;
     }
-    println!("\nOutside the domain and not made: a NaN put in, more than one control, two threads, measuring where a square or a partial sum is inexact.");
+    println!("\nOutcome 1: {} kept, where 1-p0 and the sum have equal bits; {other_way} left out, where they have not.", tally.ones);
+    println!("Outside the domain and not made: a NaN put in, more than one control, two threads, measuring where a square or a partial sum is inexact.");
     println!("seed {seed}: {cases} cases compared bit for bit, {different} different; {outside} made and left out as outside the domain");
     different == 0
 }

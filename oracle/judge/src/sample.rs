@@ -2,10 +2,10 @@
 //! docs/VECTORS-ORACLE.md has the format.
 use crate::calls::Call;
 use crate::cases;
-use crate::compare::{expected, impossible};
+use crate::compare::{both_ways, expected, forced, impossible};
 use crate::matrices::{self, Parts};
 use crate::random::Random;
-use crate::states::{has_nan, state, Kind, KINDS};
+use crate::states::{has_nan, state, Kind, KINDS, MEASURED};
 use crate::{ours, rust};
 use gate_bench::Answer;
 use spinoza::core::State;
@@ -29,6 +29,8 @@ fn said(answer: Answer) -> u8 {
 struct Sample {
     bytes: Vec<u8>,
     cases: u32,
+    ones: u32,
+    other_way: u32,
 }
 
 impl Sample {
@@ -52,14 +54,19 @@ impl Sample {
         self.parts(wanted);
     }
 
-    /// Nothing is written where a NaN comes out or the outcome is impossible.
+    /// Nothing is written where a NaN comes out, the outcome is impossible, or the Rust's probability of 1 is not the sum's.
     fn record(&mut self, call: &Call, random: &mut Random, kind: Kind) {
         let before = state(kind, random, 1 << call.n);
+        if !both_ways(call, &before.0, &before.1) {
+            self.other_way += 1;
+            return;
+        }
         let mut after = State { reals: before.0.clone(), imags: before.1.clone(), n: call.n as u8 };
         rust::run(call, &mut after);
         if has_nan(&after.reals) || has_nan(&after.imags) || impossible(call, &before.0, &before.1) {
             return;
         }
+        self.ones += u32::from(forced(call) == Some(1));
         let mut bytes = ours::record(call);
         let head = [RECORD, call.n as u8, said(expected(call)), bytes.len() as u8];
         self.case(head, &none(), &before, &(after.reals, after.imags));
@@ -101,9 +108,9 @@ fn small(sample: &mut Sample, random: &mut Random) {
         for call in cases::all_flips(n, random) {
             sample.record(&call, random, Kind::Edges);
         }
-        for _ in 0..3 {
+        for kind in MEASURED.repeat(3) {
             for call in cases::all_measurements(n) {
-                sample.record(&call, random, Kind::Exact);
+                sample.record(&call, random, kind);
             }
         }
     }
@@ -118,9 +125,9 @@ fn larger(sample: &mut Sample, random: &mut Random) {
             }
         }
         let measurements = cases::all_measurements(n);
-        for _ in 0..4 {
+        for kind in MEASURED.repeat(4) {
             let call = &measurements[random.below(measurements.len() as u64) as usize];
-            sample.record(call, random, Kind::Exact);
+            sample.record(call, random, kind);
         }
     }
 }
@@ -142,10 +149,11 @@ fn all_matrices(sample: &mut Sample, random: &mut Random) {
 
 pub fn run(seed: u64, file: &str) {
     let mut random = Random(seed);
-    let mut sample = Sample { bytes: vec![], cases: 0 };
+    let mut sample = Sample { bytes: vec![], cases: 0, ones: 0, other_way: 0 };
     small(&mut sample, &mut random);
     larger(&mut sample, &mut random);
     all_matrices(&mut sample, &mut random);
     std::fs::write(file, &sample.bytes).expect("the file can be written");
     println!("{file}: {} cases, {} bytes", sample.cases, sample.bytes.len());
+    println!("outcome 1: {} kept, where 1-p0 and the sum have equal bits; {} left out, where they have not", sample.ones, sample.other_way);
 }

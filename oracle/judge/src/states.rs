@@ -12,9 +12,13 @@ pub enum Kind {
     Cancelling,
     Infinite,
     Exact,
+    LengthOne,
 }
 
 pub const KINDS: [Kind; 8] = [Kind::Ramp, Kind::Unit, Kind::AnyBits, Kind::Edges, Kind::Subnormal, Kind::Zeros, Kind::Cancelling, Kind::Infinite];
+
+/// The kinds that are measured: their sums are exact.
+pub const MEASURED: [Kind; 2] = [Kind::Exact, Kind::LengthOne];
 
 const EDGES: [u64; 13] = [
     0x0000000000000000,
@@ -58,6 +62,31 @@ fn exact_unit(size: usize) -> f64 {
     2f64.powi(-3 - (size.ilog2() as i32 + 1) / 2)
 }
 
+/// A number as parts whose squares add up to its own: 1/4 four times, or 9, 4, 1, 1 and 1 of 16.
+const SPLITS: [&[f64]; 2] = [&[0.5, 0.5, 0.5, 0.5], &[0.75, 0.5, 0.25, 0.25, 0.25]];
+
+/// Numbers of either sign whose squares add up to 1: they begin as one 1, and one after the other is split among places that are free. What is split is
+/// a multiple of 2^-20, so that squares and sums are exact.
+fn length_one(random: &mut Random, size: usize) -> Vec<f64> {
+    let mut order: Vec<usize> = (0..size).collect();
+    for i in (1..size).rev() {
+        order.swap(i, random.below(i as u64 + 1) as usize);
+    }
+    let mut made = vec![1.0];
+    for _ in 0..random.below(size as u64 + 1) {
+        let parts = SPLITS[random.below(2) as usize];
+        let at = random.below(made.len() as u64) as usize;
+        let multiple = made[at] * f64::from(1 << 20);
+        if multiple.fract() == 0.0 && made.len() + parts.len() <= size + 1 {
+            let whole = made.swap_remove(at);
+            made.extend(parts.iter().map(|part| whole * part));
+        }
+    }
+    made.resize(size, 0.0);
+    let signed: Vec<f64> = made.iter().map(|x| sign(random, x.to_bits())).collect();
+    order.iter().map(|i| signed[*i]).collect()
+}
+
 fn number(kind: Kind, random: &mut Random, i: usize, size: usize, base: u64) -> f64 {
     match kind {
         Kind::Ramp => (i + 1) as f64,
@@ -81,11 +110,17 @@ fn number(kind: Kind, random: &mut Random, i: usize, size: usize, base: u64) -> 
             }
         }
         Kind::Exact => (random.below(17) as f64 - 8.0) * exact_unit(size),
+        Kind::LengthOne => unreachable!("such a state is made as a whole"),
     }
 }
 
 /// The reals and imags of a state or a matrix of this many places.
 pub fn state(kind: Kind, random: &mut Random, size: usize) -> (Vec<f64>, Vec<f64>) {
+    if kind == Kind::LengthOne {
+        let mut reals = length_one(random, 2 * size);
+        let imags = reals.split_off(size);
+        return (reals, imags);
+    }
     let base = 0x3ff0000000000000 + (random.next() >> 12);
     let reals = (0..size).map(|i| number(kind, random, i, size, base)).collect();
     let imags = (0..size).map(|i| number(kind, random, i + size, size, base)).collect();
