@@ -389,7 +389,7 @@ def make_gates(n, rounds):
 
 
 def make_specials(seed):
-    """Amplitudes that are infinite, NaN, subnormal and negative zero, under every gate; measured while the chosen half has them."""
+    """Amplitudes that are infinite, NaN, subnormal and negative zero, under every gate; refused as an outcome while its half has them."""
     m = Maker(4, 0xFFFFFFFF, seed)
     huge, least, small = of_bits(0x7FEFFFFFFFFFFFFF), of_bits(1), of_bits(0x0010000000000000)
     for q in range(4):
@@ -398,7 +398,6 @@ def make_specials(seed):
         target = next(q for q in range(4) if place >> q & 1)
         m.next(5, target, place - (1 << target), (k, 0.0))
     m.next(11, 3, 0, (1, 0))
-    m.next(11, 3, 0, (0, 0))
     m.next(2, 3, 4)
     m.next(1, 0, 8)
     m.next(6, 1, 8, (0.75, 0.5))
@@ -509,9 +508,9 @@ def make_eleven(seed):
     return m.data
 
 
-def make_overlong(seed):
+def make_overlong(seed, longest=65535):
     good = write(7, 0, 2, 0)
-    return (header(1, 7) + frame(b'') + frame(good + bytes(95 - len(good))) + frame(bytes(94)) + frame(good) + frame(bytes(65535)) + frame(b'\x20' * 300)
+    return (header(1, 7) + frame(b'') + frame(good + bytes(95 - len(good))) + frame(bytes(94)) + frame(good) + frame(bytes(longest)) + frame(b'\x20' * 300)
             + frame(write(7, 1, 2, 0)) + frame(bytes(96)) + frame(b''))
 
 
@@ -601,10 +600,12 @@ def store(crates, seed):
 
 
 def store_apart(crates, made):
-    """The streams behind a good header, but for many; of deliveries the start: how many bytes, cuts and answers each has, and that nothing differs."""
+    """The streams behind a good header, but for many: how many bytes, cuts and answers each has, and that nothing differs. Of deliveries and
+    cut_overlong the start, and of overlong one with shorter frames, since each is fed as often as it has bytes."""
     apart = os.path.join(crates, 'cut_streams')
     kept = {name: data for name, data in made.items() if name != 'many' and answer(data) != 'BAD HEADER\n'}
-    kept['deliveries'] = kept['deliveries'][:6152]
+    kept['deliveries'], kept['cut_overlong'] = kept['deliveries'][:8 + 6144], kept['cut_overlong'][:8 + 2048]
+    kept['overlong'] = make_overlong(None, 300)
     for name, data in kept.items():
         put(os.path.join(apart, 'data'), name, data)
     put(apart, 'args', ''.join(name + '\n' for name in kept).encode())
