@@ -111,7 +111,8 @@ uint32_t gate_bench_swap_apply(double *reals, size_t reals_len, double *imags, s
 uint32_t gate_bench_bit_flip_noise_apply(double *reals, size_t reals_len, double *imags, size_t imags_len, uint32_t n,
                             uint32_t target, double prob, double draw);
 
-/* A measurement whose outcome (0 or 1) is forced; with reset 1 the qubit is set back to 0. The value is the outcome. */
+/* A measurement whose outcome (0 or 1) is forced; with reset 1 the qubit is set back to 0. The value is the outcome. Its probability is the sum of
+ * the squares over its own half of the places; where that is 0, as in a half of zeros, or not finite: 7. */
 uint32_t gate_bench_measure_qubit(double *reals, size_t reals_len, double *imags, size_t imags_len, uint32_t n, uint32_t target,
                             uint8_t outcome, uint8_t reset);
 

@@ -91,7 +91,7 @@ pub fn bit_flip_noise_apply(reals: &mut [f64], imags: &mut [f64], n: u32, target
     Answer::of(ffi::bit_flip_noise_apply(reals, imags, n, target, noise.prob, noise.draw))
 }
 
-/// A forced measurement; the value is the outcome.
+/// A forced measurement; the value is the outcome. Its probability is the sum of the squares over its own half of the places.
 pub fn measure_qubit(reals: &mut [f64], imags: &mut [f64], n: u32, target: u32, forced: Forced) -> Answer {
     Answer::of(ffi::measure_qubit(reals, imags, n, target, forced.outcome, forced.reset))
 }
