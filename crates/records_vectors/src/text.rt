@@ -6,9 +6,9 @@ pub fn text(bytes: &[u8]) {
 }
 
 // A blank and a number.
-pub fn number(n: u64) {
+pub fn number(n: u32) {
     text(b" ");
-    io::print_decimal(STDOUT_FILENO, n);
+    io::print_decimal(STDOUT_FILENO, n as u64);
 }
 
 // A blank and the bits of an f64.
@@ -17,9 +17,13 @@ fn bits(x: f64) {
     io::print_hex(STDOUT_FILENO, wire::bits_of(x), 16);
 }
 
-pub fn floats(numbers: &[f64]) {
+// So many, as far as there are.
+pub fn floats(numbers: &[f64], count: usize) {
     let mut i: usize = 0;
-    while i < numbers.len() {
+    while i < count {
+        if numbers.len() <= i {
+            return;
+        }
         bits(numbers[i]);
         i += 1;
     }
