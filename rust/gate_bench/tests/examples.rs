@@ -67,12 +67,9 @@ fn measuring() {
 /// Request 03: the outcome's own half is summed, whatever the other holds, and a half of zeros is refused.
 #[test]
 fn measuring_by_the_half_asked_for() {
-    for (outcome, before, after) in [
-        (0, [2.0, 1.0], [1.0, 0.0]),
-        (1, [1.0, 2.0], [0.0, 1.0]),
-        (1, [f64::INFINITY, -2.0], [0.0, -1.0]),
-        (0, [2.0, f64::NAN], [1.0, 0.0]),
-    ] {
+    for (outcome, before, after) in
+        [(0, [2.0, 1.0], [1.0, 0.0]), (1, [1.0, 2.0], [0.0, 1.0]), (1, [f64::INFINITY, -2.0], [0.0, -1.0]), (0, [2.0, f64::NAN], [1.0, 0.0])]
+    {
         let (mut reals, mut imags) = (before, [0.0; 2]);
         assert_eq!(measure_qubit(&mut reals, &mut imags, 1, 0, Forced { outcome, reset: 0 }), Answer::Value(outcome));
         assert_eq!(bits(&reals), bits(&after));
