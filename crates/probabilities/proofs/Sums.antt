@@ -32,7 +32,7 @@ added-more s from i start l e =
 -- ---- the sum over the indices with target bit o
 
 module _ (t o : ℕ) (s : State) where
-  pub sum-none : ofBits binary64 0 ≡ summed t o s 0
+  sum-none : ofBits binary64 0 ≡ summed t o s 0
   unfolding summed ofBits
   sum-none = refl
 
@@ -45,7 +45,7 @@ module _ (t o : ℕ) (s : State) where
   sum-passes i e = rw (ne-eqb (bit t i) o e)
 
   -- a stretch of the half is added
-  pub sum-adds : (a k : ℕ) → ((i : ℕ) → a ≤ i → i < a + k → bit t i ≡ o) → summed t o s (a + k) ≡ added s a (summed t o s a) k
+  sum-adds : (a k : ℕ) → ((i : ℕ) → a ≤ i → i < a + k → bit t i ≡ o) → summed t o s (a + k) ≡ added s a (summed t o s a) k
   unfolding added
   sum-adds a zero own = ap (summed t o s) (omega arith)
   sum-adds a (suc k) own =
@@ -54,7 +54,7 @@ module _ (t o : ℕ) (s : State) where
       ∙ ap (λ (x : Float). x ⊕ square (s (a + k))) (sum-adds a k (λ i x y. own i x (omega arith)))
 
   -- a stretch of the other half adds nothing
-  pub sum-skips : (a k : ℕ) → ((i : ℕ) → a ≤ i → i < a + k → bit t i ≡ o → ⊥) → summed t o s (a + k) ≡ summed t o s a
+  sum-skips : (a k : ℕ) → ((i : ℕ) → a ≤ i → i < a + k → bit t i ≡ o → ⊥) → summed t o s (a + k) ≡ summed t o s a
   sum-skips a zero other = ap (summed t o s) (omega arith)
   sum-skips a (suc k) other =
       ap (summed t o s) (let e : a + suc k ≡ suc (a + k) = omega arith in e)

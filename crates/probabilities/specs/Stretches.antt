@@ -13,7 +13,7 @@ pub record Stretch (from to : ℕ) (b : Buffers) : Type 0 where
   pub reals : to ≤ length (b .reals)
   pub imags : to ≤ length (b .imags)
 
--- the squares of `size` places from `from` on, added to start, rising
+-- to start, the squares of so many places from `from` on, rising
 unfoldable pub added : State → ℕ → Float → ℕ → Float
 added s from start zero = start
 added s from start (suc k) = added s from start k ⊕ square (s (from + k))
