@@ -1,52 +1,47 @@
 // Whether two runs of one stream came to the same, bit for bit.
+use feeding::Feed;
+use gathering::STOPPED;
+ghost use Prim.Native.Nat.{_≤_};
 
-pub(crate) fn same_numbers(a: &[u32], b: &[u32]) -> bool {
-    if a.len() != b.len() {
+pub(crate) fn numbers_differ(a: &[u32; 256], b: &[u32; 256]) -> bool {
+    let mut bits: u32 = 0;
+    let mut i: usize = 0;
+    while i < 256 {
+        bits = bits | (a[i] ^ b[i]);
+        i += 1;
+    }
+    bits != 0
+}
+
+pub(crate) fn floats_differ(a: &[f64; 2048], b: &[f64; 2048], size: usize) -> bool
+    requires { ⌜ size ≤ 2048 ⌝ }
+{
+    let mut bits: u64 = 0;
+    let mut i: usize = 0;
+    while i < size {
+        bits = bits | (wire::bits_of(a[i]) ^ wire::bits_of(b[i]));
+        i += 1;
+    }
+    bits != 0
+}
+
+// The bytes that are held are compared where some are.
+fn held_differ(a: &[u8; 97], b: &[u8; 97], kept: u32) -> bool {
+    if STOPPED <= kept {
         return false;
     }
+    let mut bits: u8 = 0;
     let mut i: usize = 0;
-    while i < a.len() {
-        if b.len() <= i {
-            return false;
-        }
-        if a[i] != b[i] {
-            return false;
-        }
+    while i < kept as usize {
+        bits = bits | (a[i] ^ b[i]);
         i += 1;
     }
-    true
+    bits != 0
 }
 
-pub(crate) fn same_floats(a: &[f64], b: &[f64]) -> bool {
-    let mut i: usize = 0;
-    while i < a.len() {
-        if b.len() <= i {
-            return false;
-        }
-        let x = a[i];
-        let y = b[i];
-        if wire::bits_of(x) != wire::bits_of(y) {
-            return false;
-        }
-        i += 1;
-    }
-    a.len() == b.len()
-}
-
-// The bytes that are kept.
-pub(crate) fn same_start(a: &[u8], b: &[u8], kept: usize) -> bool {
-    let mut i: usize = 0;
-    while i < kept {
-        if a.len() <= i {
-            return true;
-        }
-        if b.len() <= i {
-            return true;
-        }
-        if a[i] != b[i] {
-            return false;
-        }
-        i += 1;
-    }
-    true
+// Whether two forms differ to whoever goes on with them.
+pub(crate) fn forms_differ(a: Feed, b: Feed) -> bool {
+    let s = a.session;
+    let t = b.session;
+    (s.count != t.count) | (a.kept != b.kept) | held_differ(&a.held, &b.held, a.kept)
 }

@@ -3,13 +3,13 @@
 mod apart;
 mod compare;
 
-use apart::Stored;
 use apart::take_apart;
 use headers::Header;
 use libc::STDOUT_FILENO;
+use sessions::Session;
 
 // The longest of the files, and a byte more: a longer one is not taken apart.
-const MOST: usize = 66210;
+const MOST: usize = 11845;
 
 fn say(name: &[u8], words: &[u8]) {
     io::write_all(STDOUT_FILENO, name);
@@ -22,8 +22,8 @@ fn say_count(count: u64, words: &[u8]) {
 }
 
 // How many cuts there were, and how many of them gave anything else than the whole.
-fn report(name: &[u8], stored: Stored, frames: &[u8]) {
-    let tally = take_apart(stored, frames);
+fn report(name: &[u8], session: Session, frames: &[u8]) {
+    let tally = take_apart(session, frames);
     say(name, b": ");
     say_count(frames.len() as u64, b" bytes, ");
     say_count(tally.cuts, b" cuts in two and one byte by byte, ");
@@ -37,16 +37,23 @@ fn run_input(name: &[u8], input: &[u8]) {
         say(name, b": BAD HEADER\n");
         return;
     };
-    report(name, Stored { n, number }, headers::behind_header(input));
+    report(
+        name,
+        Session::resume(n, number, 0),
+        headers::behind_header(input),
+    );
 }
 
+fn run_argument(i: usize) {
+    let mut name = [0u8; 64];
+    let n = os::arg(i, &mut name);
+    run_stored(&name[..n]);
+}
+
+// Of a file that is not opened nothing is read, and so no header.
 fn run_stored(name: &[u8]) {
     let mut space = [0u8; MOST];
     let input = os::open_read(name);
-    if input < 0 {
-        say(name, b": NOT OPENED\n");
-        return;
-    }
     let got = io::read_full(input, &mut space);
     libc::close(input);
     if got == MOST {
@@ -54,12 +61,6 @@ fn run_stored(name: &[u8]) {
         return;
     }
     run_input(name, &space[..got]);
-}
-
-fn run_argument(i: usize) {
-    let mut name = [0u8; 64];
-    let n = os::arg(i, &mut name);
-    run_stored(&name[..n]);
 }
 
 // Argument 0 is the program's own name.

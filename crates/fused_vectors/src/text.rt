@@ -1,58 +1,32 @@
-// Hex words in text, and counters that stay within their type.
-ghost use lib.ListN.{length};
-ghost use Prim.Native.Nat.{_+_, _≤_};
-
-// A word of 16 hex digits, and whether it and all before it were there.
-pub(crate) struct Word {
-    pub(crate) bits: u64,
-    pub(crate) read: bool,
-}
+// The words of a line.
 
 // What stands above the lower 60 bits is lost when another digit comes behind.
 const ROOM: u64 = 0x1000_0000_0000_0000;
 
 const NO_DIGIT: u64 = 16;
 
-fn wide(b: u8) -> u64 {
-    b as u64
+// A hex digit's value, and 16 for any other byte. At place 0 of a word stands a space, which has no value.
+fn value(b: u8, place: usize) -> u64 {
+    if place == 0 {
+        return if b == b' ' { 0 } else { NO_DIGIT };
+    }
+    match b {
+        b'0'..=b'9' => (b - b'0') as u64,
+        b'a'..=b'f' => (b - b'a' + 10) as u64,
+        _ => NO_DIGIT,
+    }
 }
 
-// A hex digit's value, and 16 for any other byte.
-fn digit(b: u8) -> u64 {
-    let x = wide(b);
-    if 48 <= x && x <= 57 {
-        return x - 48;
-    }
-    if 97 <= x && x <= 102 {
-        return x - 87;
-    }
-    NO_DIGIT
-}
-
-// The word behind the space at `at`.
-pub(crate) fn read_word(s: &[u8], at: usize, before: bool) -> Word
-    requires { ⌜ at + 17 ≤ length (now s) ⌝ }
-{
-    let read = before & (s[at] == b' ');
-    let mut bits: u64 = 0;
-    let mut i: usize = 1;
-    while i < 17 {
-        let d = digit(s[at + i]);
-        if d == NO_DIGIT {
-            return Word {
-                bits: 0,
-                read: false,
-            };
-        }
-        bits = bits % ROOM * 16 + d % 16;
+// The four words, of a space and 16 digits each, and whether all is so.
+pub(crate) fn read_words(line: &[u8; 70], words: &mut [u64; 4]) -> bool {
+    let mut good = line[69] == b'\n';
+    let mut i: usize = 0;
+    while i < 68 {
+        let v = value(line[i + 1], i % 17);
+        let k = i / 17;
+        good = good & (v < NO_DIGIT);
+        words[k] = words[k] % ROOM * 16 + v % 16;
         i += 1;
     }
-    Word {
-        bits: bits,
-        read: read,
-    }
-}
-
-pub(crate) fn one_more(n: u64) -> u64 {
-    if n < 0xffff_ffff_ffff_ffff { n + 1 } else { n }
+    good
 }

@@ -1,14 +1,16 @@
-// One case: its head says what is called, on how many qubits, and so how many floats follow, and where each operand stands among them.
-use crate::input::fill;
+// One case: its head says what is called, on how many qubits, and so how many floats follow.
+use crate::floats::read_floats;
 use crate::run::run_case;
 use libc::STDIN_FILENO;
 
-pub(crate) enum Verdict {
-    Same,
-    Different,
-    Unread,
-    End,
-}
+// The verdict on a case is 1 where anything differs, and its upper bit says that there was none: two verdicts are joined by `|`.
+pub(crate) const SAME: u64 = 0;
+
+pub(crate) const DIFFERENT: u64 = 1;
+
+pub(crate) const END: u64 = 2;
+
+pub(crate) const UNREAD: u64 = 3;
 
 // What is called. given is the answer that is expected, or the target of a gate's matrix; length is the record's.
 pub(crate) struct Head {
@@ -16,17 +18,6 @@ pub(crate) struct Head {
     pub(crate) n: u8,
     pub(crate) given: u8,
     pub(crate) length: u8,
-}
-
-// How many places the first operand has, and how many the second and what is wanted; where the parts of these two start, and where all ends.
-pub(crate) struct Layout {
-    pub(crate) first: usize,
-    pub(crate) places: usize,
-    pub(crate) reals: usize,
-    pub(crate) imags: usize,
-    pub(crate) wanted_reals: usize,
-    pub(crate) wanted_imags: usize,
-    pub(crate) end: usize,
 }
 
 pub(crate) const RECORD: u8 = 1;
@@ -39,87 +30,68 @@ pub(crate) const PRODUCT: u8 = 4;
 
 const STATE_PRODUCT: u8 = 5;
 
-// A record stands in as many bytes as the longest has.
-pub(crate) const SLOT: u8 = 94;
-
 // No sampled state has more qubits.
 const MOST_SAMPLED: u8 = 6;
 
 // No operand has more places.
 const MOST_PLACES: usize = 64;
 
-fn with_places(head: Head, first: usize, places: usize) -> Verdict {
+// How many places the first operand has, and how many the second and what is wanted.
+fn with_places(head: Head, first: usize, places: usize) -> u64 {
     if MOST_PLACES < first {
-        return Verdict::Unread;
+        return UNREAD;
     }
     if MOST_PLACES < places {
-        return Verdict::Unread;
+        return UNREAD;
     }
-    let reals = first + first;
-    let imags = reals + places;
-    let wanted_reals = imags + places;
-    let wanted_imags = wanted_reals + places;
-    let end = wanted_imags + places;
-    let layout = Layout {
-        first,
-        places,
-        reals,
-        imags,
-        wanted_reals,
-        wanted_imags,
-        end,
-    };
     let mut floats = [0.0; 384];
-    if !fill(&mut floats, end) {
-        return Verdict::Unread;
+    let mut reals = [0.0; MOST_PLACES];
+    let mut imags = [0.0; MOST_PLACES];
+    if read_floats(&mut floats, first, places) {
+        run_case(
+            head,
+            first,
+            &floats,
+            &mut reals[..places],
+            &mut imags[..places],
+        )
+    } else {
+        UNREAD
     }
-    let mut left_reals = [0.0; MOST_PLACES];
-    let mut left_imags = [0.0; MOST_PLACES];
-    run_case(
-        head,
-        layout,
-        &floats,
-        &mut left_reals[0..places],
-        &mut left_imags[0..places],
-    )
 }
 
-fn sized_case(head: Head) -> Verdict {
+fn sized_case(head: Head) -> u64 {
     let n = head.n;
     if MOST_SAMPLED < n {
-        return Verdict::Unread;
+        return UNREAD;
     }
     let side: usize = 1 << n;
     let all: usize = 1 << (n + n);
     let kind = head.kind;
     match kind {
-        RECORD => {
-            if head.length <= SLOT {
-                return with_places(head, 0, side);
-            }
-            Verdict::Unread
-        }
+        RECORD => with_places(head, 0, side),
         GATE_MATRIX => with_places(head, 4, all),
         TRANSPOSE => with_places(head, 0, all),
         PRODUCT => with_places(head, all, all),
         STATE_PRODUCT => with_places(head, all, side),
-        _ => Verdict::Unread,
+        _ => UNREAD,
     }
 }
 
-pub(crate) fn read_case() -> Verdict {
+pub(crate) fn read_case() -> u64 {
     let mut bytes = [0u8; 4];
     let got = io::read_full(STDIN_FILENO, &mut bytes);
     if got == 0 {
-        return Verdict::End;
+        return END;
     }
     if got < 4 {
-        return Verdict::Unread;
+        UNREAD
+    } else {
+        sized_case(Head {
+            kind: bytes[0],
+            n: bytes[1],
+            given: bytes[2],
+            length: bytes[3],
+        })
     }
-    sized_case(Head {
-        kind: bytes[0],
-        n: bytes[1],
-        given: bytes[2],
-        length: bytes[3],
-    })
 }

@@ -1,7 +1,6 @@
 // The record of a case, delivered to a new session.
 use crate::case::Head;
-use crate::case::SLOT;
-use crate::case::Verdict;
+use crate::case::UNREAD;
 use book::Reply;
 use libc::STDIN_FILENO;
 use sessions::Session;
@@ -14,6 +13,9 @@ const NUMBER: u32 = 7;
 const VALUE: u8 = 32;
 
 const REFUSED: u8 = 255;
+
+// A record stands in as many bytes as the longest has.
+const SLOT: usize = 94;
 
 fn told(reply: Reply) -> u8 {
     match reply {
@@ -37,27 +39,15 @@ fn told_of(n: u8, bytes: &[u8], reals: &mut [f64], imags: &mut [f64]) -> u8 {
 }
 
 // The record is the slot's first bytes.
-fn record_in(slot: &[u8], length: usize) -> &[u8] {
-    if slot.len() < length {
-        return slot;
+pub(crate) fn deliver(head: Head, reals: &mut [f64], imags: &mut [f64]) -> u64 {
+    let length = head.length as usize;
+    if SLOT < length {
+        return UNREAD;
     }
-    &slot[0..length]
-}
-
-fn judged(got: usize, told: u8, given: u8) -> Verdict {
-    if got < SLOT as usize {
-        return Verdict::Unread;
+    let mut slot = [0u8; SLOT];
+    if io::read_full(STDIN_FILENO, &mut slot) < SLOT {
+        UNREAD
+    } else {
+        (told_of(head.n, &slot[..length], reals, imags) != head.given) as u64
     }
-    if told == given {
-        return Verdict::Same;
-    }
-    Verdict::Different
-}
-
-pub(crate) fn deliver(head: Head, reals: &mut [f64], imags: &mut [f64]) -> Verdict {
-    let mut slot = [0u8; 94];
-    let got = io::read_full(STDIN_FILENO, &mut slot);
-    let bytes = record_in(&slot, head.length as usize);
-    let told = told_of(head.n, bytes, reals, imags);
-    judged(got, told, head.given)
 }

@@ -1,62 +1,48 @@
-// Lines of hex digits, byte by byte.
-use crate::tell::tell;
+// Lines of hex digits.
+use libc::STDIN_FILENO;
 
-// No first digit is waiting for its second.
-pub const NONE: u8 = 16;
+// No line has more bytes.
+pub(crate) const MOST: usize = 128;
 
-// How many bytes the line has, and its first digit that waits.
-pub struct Cursor {
-    pub len: usize,
-    pub high: u8,
-}
+// Behind the last line.
+const NO_LINE: usize = 129;
 
-fn value(digit: u8) -> u8 {
-    if digit < b'a' {
-        return digit % 16;
-    }
-    (digit - b'a' + 10) % 16
-}
+const LINE_FEED: u8 = 16;
 
-fn tell_line(line: &[u8], len: usize) {
-    if len <= line.len() {
-        tell(&line[0..len]);
-    }
-}
+const NO_BYTE: u8 = 17;
 
-fn take_digit(digit: u8, cursor: Cursor, line: &mut [u8]) -> Cursor {
-    let len = cursor.len;
-    let high = cursor.high;
-    if high == NONE {
-        return Cursor {
-            len,
-            high: value(digit),
-        };
-    }
-    if line.len() <= len {
-        return cursor;
-    }
-    line[len] = high % 16 * 16 + value(digit) % 16;
-    Cursor {
-        len: len + 1,
-        high: NONE,
-    }
-}
-
-fn take_byte(byte: u8, cursor: Cursor, line: &mut [u8]) -> Cursor {
+fn value(byte: u8) -> u8 {
     if byte == b'\n' {
-        tell_line(line, cursor.len);
-        return Cursor { len: 0, high: NONE };
+        return LINE_FEED;
     }
-    take_digit(byte, cursor, line)
+    if byte < b'a' {
+        return byte % 16;
+    }
+    (byte - b'a' + 10) % 16
 }
 
-pub fn take_chunk(chunk: &[u8], cursor: Cursor, line: &mut [u8]) -> Cursor {
-    let mut next = cursor;
-    let mut i: usize = 0;
-    while i < chunk.len() {
-        let byte = chunk[i];
-        next = take_byte(byte, next, line);
-        i += 1;
+// The next digit's value, LINE_FEED, or NO_BYTE at the end of the input.
+fn next_digit() -> u8 {
+    let mut bytes = [0u8; 1];
+    if io::read_full(STDIN_FILENO, &mut bytes) == 0 {
+        return NO_BYTE;
     }
-    next
+    value(bytes[0])
+}
+
+// How many bytes the next line has.
+pub(crate) fn read_line(line: &mut [u8]) -> usize {
+    let mut len: usize = 0;
+    while len < line.len() {
+        let high = next_digit();
+        if high == NO_BYTE {
+            return NO_LINE;
+        }
+        if high == LINE_FEED {
+            return len;
+        }
+        line[len] = high % 16 * 16 + next_digit() % 16;
+        len += 1;
+    }
+    len
 }

@@ -6,10 +6,10 @@ use Rattle.cut_streams.proofs.apart.cut_in_two.Statement.{statement}
 use Rattle.cut_streams.proofs.apart.cut_in_two.Tie as tie
 
 abbrev Inv-loop : tie.InvT-loop
-Inv-loop stored frames whole answers reals imags differ₀ at₀ differ at = Unit {0}
+Inv-loop session frames whole answers reals imags differ₀ at₀ differ at = Unit {0}
 
 abbrev μ-loop : tie.MeasureT-loop
-μ-loop stored frames whole answers reals imags differ₀ at₀ differ at = length frames + 1 - at
+μ-loop session frames whole answers reals imags differ₀ at₀ differ at = length frames + 1 - at
 
 pub cut-in-two-spec : {M : Type 1} → statement M
 cut-in-two-spec =

@@ -1,15 +1,14 @@
 -- `cut_streams::apart::told` is safe and ends: the places left fall. Assumes nothing.
-use Prim.Native.Nat.{_-_}
-use lib.ListN.{length}
+use Prim.Native.Nat.{_≤_, _-_}
 use borrow.Author.Needs.{needs}
 use Rattle.cut_streams.proofs.apart.told.Statement.{statement}
 use Rattle.cut_streams.proofs.apart.told.Tie as tie
 
 abbrev Inv-loop : tie.InvT-loop
-Inv-loop answers i₀ i = Unit {0}
+Inv-loop answers i₀ i = i ≤ 256
 
 abbrev μ-loop : tie.MeasureT-loop
-μ-loop answers i₀ i = length answers - i
+μ-loop answers i₀ i = 256 - i
 
 pub told-spec : {M : Type 1} → statement M
 told-spec =
@@ -17,11 +16,11 @@ told-spec =
     (tie.spec
     Inv-loop
     μ-loop
-    (λ c. tt)
     (λ c. search needs)
     (λ c. search needs)
     (λ c. search needs)
     (λ c. search needs)
     (λ c. search needs)
-    (λ c. tt)
+    (λ c. search needs)
+    (λ c. search needs)
     (λ c. search needs))

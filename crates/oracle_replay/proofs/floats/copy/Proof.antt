@@ -7,10 +7,10 @@ use Rattle.oracle_replay.proofs.floats.copy.Statement.{statement}
 use Rattle.oracle_replay.proofs.floats.copy.Tie as tie
 
 abbrev Inv-loop : tie.InvT-loop
-Inv-loop into₀ floats at from₀ i₀ into from i = (i ≤ length into₀) × (length into ≡ length into₀)
+Inv-loop into₀ floats at i₀ into i = (i ≤ length into₀) × (length into ≡ length into₀)
 
 abbrev μ-loop : tie.MeasureT-loop
-μ-loop into₀ floats at from₀ i₀ into from i = length into₀ - i
+μ-loop into₀ floats at i₀ into i = length into₀ - i
 
 pub copy-spec : {M : Type 1} → statement M
 copy-spec =
@@ -18,8 +18,6 @@ copy-spec =
     (tie.spec
     Inv-loop
     μ-loop
-    (λ c. search needs)
-    (λ c. search needs)
     (λ c. search needs)
     (λ c. search needs)
     (λ c. search needs)

@@ -1,16 +1,16 @@
--- `oracle_replay::input::fill` is safe and ends: the places left fall. Assumes nothing.
+-- `oracle_replay::floats::fill` is safe and ends: the places left fall. Assumes nothing.
 use Prim.Native.Nat.{_≤_, _-_}
 use mathlib.Core.Path.{_≡_}
 use lib.ListN.{length}
 use borrow.Author.Needs.{needs}
-use Rattle.oracle_replay.proofs.input.fill.Statement.{statement}
-use Rattle.oracle_replay.proofs.input.fill.Tie as tie
+use Rattle.oracle_replay.proofs.floats.fill.Statement.{statement}
+use Rattle.oracle_replay.proofs.floats.fill.Tie as tie
 
 abbrev Inv-loop : tie.InvT-loop
-Inv-loop into₀ count i₀ into i = (i ≤ count) × (length into ≡ length into₀)
+Inv-loop floats₀ at count bytes₀ got₀ i₀ floats bytes got i = (i ≤ count) × (length bytes ≡ 8)
 
 abbrev μ-loop : tie.MeasureT-loop
-μ-loop into₀ count i₀ into i = count - i
+μ-loop floats₀ at count bytes₀ got₀ i₀ floats bytes got i = count - i
 
 pub fill-spec : {M : Type 1} → statement M
 fill-spec =
@@ -20,10 +20,9 @@ fill-spec =
     μ-loop
     (λ c. search needs)
     (λ c. search needs)
-    (λ c. search needs)
     (λ c κs. search needs)
-    (λ c. search needs)
-    (λ c. search needs)
+    (λ c κs. search needs)
+    (λ c κs. search needs)
     (λ c. search needs)
     (λ c. search needs)
     (λ c. search needs)

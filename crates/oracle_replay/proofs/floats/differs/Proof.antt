@@ -1,18 +1,18 @@
--- `oracle_replay::floats::same` is safe and ends: the places left fall. Assumes nothing.
+-- `oracle_replay::floats::differs` is safe and ends: the places left fall. Assumes nothing.
 use Prim.Native.Nat.{_≤_, _-_}
 use lib.ListN.{length}
 use borrow.Author.Needs.{needs}
-use Rattle.oracle_replay.proofs.floats.same.Statement.{statement}
-use Rattle.oracle_replay.proofs.floats.same.Tie as tie
+use Rattle.oracle_replay.proofs.floats.differs.Statement.{statement}
+use Rattle.oracle_replay.proofs.floats.differs.Tie as tie
 
 abbrev Inv-loop : tie.InvT-loop
-Inv-loop found floats at from₀ i₀ from i = i ≤ length found
+Inv-loop found floats at bits₀ i₀ bits i = i ≤ length found
 
 abbrev μ-loop : tie.MeasureT-loop
-μ-loop found floats at from₀ i₀ from i = length found - i
+μ-loop found floats at bits₀ i₀ bits i = length found - i
 
-pub same-spec : {M : Type 1} → statement M
-same-spec =
+pub differs-spec : {M : Type 1} → statement M
+differs-spec =
     tie.close
     (tie.spec
     Inv-loop
@@ -20,12 +20,11 @@ same-spec =
     (λ c. search needs)
     (λ c. search needs)
     (λ c. search needs)
-    (λ c. search needs)
     (λ c κs. search needs)
     (λ c. search needs)
     (λ c. search needs)
-    (λ c κs. search needs)
     (λ c. search needs)
+    (λ c κs. search needs)
     (λ c. search needs)
     (λ c. search needs)
     (λ c. search needs)
