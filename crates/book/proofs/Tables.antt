@@ -39,3 +39,8 @@ held-only size s b lr li places =
     ap₂ buffers
     (tabulate-only nan (b .reals) (λ i. s i .re) size lr (λ i il. ap (λ (z : Amplitude). z .re) (places i il)))
     (tabulate-only nan (b .imags) (λ i. s i .im) size li (λ i il. ap (λ (z : Amplitude). z .im) (places i il)))
+
+pub held-same : (size : ℕ) (s s′ : State) → ((i : ℕ) → i < size → s i ≡ s′ i) → held size s ≡ held size s′
+unfolding held
+held-same size s s′ same =
+    held-only size s′ (held size s) (tabulate-length _ 0 size) (tabulate-length _ 0 size) (λ i l. at-held size s i l ∙ same i l)
