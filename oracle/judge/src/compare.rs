@@ -47,13 +47,13 @@ impl Tally {
     /// One call on one state: by the kernel, and as a record delivered to a session.
     fn call(&mut self, call: &Call, reals: &[f64], imags: &[f64]) {
         let name = call.gate.name();
-        let mut theirs = State { reals: reals.to_vec(), imags: imags.to_vec(), n: call.n as u8 };
-        let (mut re, mut im) = (reals.to_vec(), imags.to_vec());
-        let answer = ours::run(call, &mut re, &mut im);
         if !both_ways(call, reals, imags) {
             self.row(name).other_way += 1;
             return;
         }
+        let mut theirs = State { reals: reals.to_vec(), imags: imags.to_vec(), n: call.n as u8 };
+        let (mut re, mut im) = (reals.to_vec(), imags.to_vec());
+        let answer = ours::run(call, &mut re, &mut im);
         if answer == Answer::Refused(Refusal::Chance) && impossible(call, reals, imags) {
             self.row(name).chance += 1;
             return;
