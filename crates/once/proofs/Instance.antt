@@ -41,6 +41,7 @@ angles =
 abbrev gates : List Gate
 gates =
     H 0 uncontrolled
+    ∷ Measure 0 (record { outcome = 1; reset = 1 })
     ∷ X 1 (controlled 1)
     ∷ Y 0 (controlled 2)
     ∷ Z 1 uncontrolled
@@ -51,7 +52,6 @@ gates =
     ∷ U 1 (controlled 1) angles
     ∷ Swap 0 1
     ∷ BitFlip 0 (record { prob = whole 1; draw = whole 0 })
-    ∷ Measure 1 (record { outcome = 1; reset = 1 })
     ∷ []
 
 -- made for session 7, numbered from k
