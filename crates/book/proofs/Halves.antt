@@ -16,16 +16,16 @@ use Rattle.book.specs.declared.Amplitude.{Amplitude}
 use Rattle.book.specs.declared.Forced.{Forced}
 use Rattle.book.proofs.Tables.{held-same}
 
-either : {A : Type 0} (k : Bool) {x x′ y y′ : A} → (k ≡ true → x ≡ x′) → (k ≡ false → y ≡ y′) → cond k x y ≡ cond k x′ y′
-either true f g = f refl
-either false f g = g refl
+cond-same : {A : Type 0} (k : Bool) {x x′ y y′ : A} → (k ≡ true → x ≡ x′) → (k ≡ false → y ≡ y′) → cond k x y ≡ cond k x′ y′
+cond-same true f g = f refl
+cond-same false f g = g refl
 
 summed-same : (t o : ℕ) (s s′ : State) (size : ℕ) → ((i : ℕ) → i < size → bit t i ≡ o → square (s i) ≡ square (s′ i)) → summed t o s size ≡ summed t o s′ size
 unfolding summed
 summed-same t o s s′ zero h = refl
 summed-same t o s s′ (suc i) h =
     let so-far = summed-same t o s s′ i (λ j l e. h j (omega arith) e) in
-    either (eqb (bit t i) o) (λ e. ap₂ _⊕_ so-far (h i (omega arith) (eqb-true (bit t i) o e))) (λ e. so-far)
+    cond-same (eqb (bit t i) o) (λ e. ap₂ _⊕_ so-far (h i (omega arith) (eqb-true (bit t i) o e))) (λ e. so-far)
 
 -- ---- the other half
 
@@ -38,7 +38,7 @@ module _ (n t : ℕ) (forced : Forced) (b b′ : Buffers) (same : (i : ℕ) → 
   unfolding measured
   left-same =
       held-same (2 ^ n) _ _
-      (λ i l. either (eqb (bit t i) (forced .outcome))
+      (λ i l. cond-same (eqb (bit t i) (forced .outcome))
       (λ e. ap₂ (λ (p : Float) (z : Amplitude). let r = oneOverRoot p in amplitude (z .re ⊗ r) (z .im ⊗ r)) chance-same (same i l (eqb-true _ _ e)))
       (λ e. refl))
 
@@ -49,10 +49,10 @@ module _ (n t : ℕ) (forced : Forced) (b b′ : Buffers) (same : (i : ℕ) → 
 -- ---- a half of zeros
 
 -- 0.0 or -0.0
-abbrev pub Zero : Float → Type 0
-Zero x = (x ≡ nought) ⊎ (x ≡ − nought)
+abbrev pub IsZero : Float → Type 0
+IsZero x = (x ≡ nought) ⊎ (x ≡ − nought)
 
-zero-square : {x : Float} → Zero x → x ⊗ x ≡ nought
+zero-square : {x : Float} → IsZero x → x ⊗ x ≡ nought
 unfolding mul neg
 zero-square = ⊎-elim (λ e. ap (λ (y : Float). y ⊗ y) e) (λ e. ap (λ (y : Float). y ⊗ y) e)
 
@@ -65,7 +65,7 @@ no-square t o (suc i) = ap (λ (x : Float). cond (eqb (bit t i) o) (x ⊕ nought
     by true = refl
     by false = refl
 
-pub half-of-zeros : (n t o : ℕ) (b : Buffers) → ((i : ℕ) → i < 2 ^ n → bit t i ≡ o → Zero (at b i .re) × Zero (at b i .im))
+pub half-of-zeros : (n t o : ℕ) (b : Buffers) → ((i : ℕ) → i < 2 ^ n → bit t i ≡ o → IsZero (at b i .re) × IsZero (at b i .im))
     → badChance (probability n t o (at b)) ≡ true
 unfolding probability lt mul
 half-of-zeros n t o b zeros =

@@ -8,11 +8,10 @@ use lib.ListN.{length, getD, set, length-set}
 use lib.Seq.{getD-set-same, getD-set-other}
 use Rattle.book.specs.Answers.{Buffers, buffers}
 use Rattle.book.specs.Lent.{SameSize}
-use Rattle.book.specs.State.{State, amplitude, at, held, pair}
+use Rattle.book.specs.State.{State, amplitude, at, pair}
 use Rattle.book.specs.declared.Pair.{Pair}
 use Rattle.pairs.specs.Pairs.{TwoPlaces, PairPut}
-use Rattle.book.proofs.Lengths.{tabulate-length}
-pub use Rattle.book.proofs.Tables.{held-only as held-ext, at-held}
+pub use Rattle.book.proofs.Tables.{held-only as held-ext, held-same}
 
 -- ---- two stores to one list
 module _ {A : Type 0} (l : List A) (s0 s1 : ℕ) (x y d : A) where
@@ -50,17 +49,3 @@ stepped rule e g w =
       upper = w .upper ∙ ap (λ (z : Pair). z .s1) (g ∙ ap rule e);
       others = w .others;
     }
-
--- ---- buffers hold a state if they do at each place
-
-module _ (size : ℕ) (s : State) where
-  pub reals-held : length (held size s .reals) ≡ size
-  unfolding held
-  reals-held = tabulate-length (λ i. s i .re) 0 size
-
-  pub imags-held : length (held size s .imags) ≡ size
-  unfolding held
-  imags-held = tabulate-length (λ i. s i .im) 0 size
-
-pub held-same : (size : ℕ) (s s′ : State) → ((i : ℕ) → i < size → s i ≡ s′ i) → held size s ≡ held size s′
-held-same size s s′ same = held-ext size s′ (held size s) (reals-held size s) (imags-held size s) (λ i l. at-held size s i l ∙ same i l)
