@@ -7,20 +7,21 @@ use lib.Dec.{ltb, eqb}
 use borrow.Author.Tests.{le-ltb}
 use Rattle.book.proofs.Agree.{refusalOf, refusal-back}
 use Rattle.book.specs.Answers.{numberOf, replies}
+use Rattle.book.specs.declared.Answer.the-variants.{Taken, Value, Refused}
 use Rattle.book.specs.declared.Refusal.{Refusal}
 use Rattle.book.specs.declared.Refusal.the-variants.{Size, Length, Qubit, Same, Form, Number, Chance, Record, Session, Early, Full, Room}
 use Rattle.book.specs.declared.Reply.{Reply}
-use Rattle.book.specs.declared.Reply.the-variants.{Taken, Value, Again, Refused}
+use Rattle.book.specs.declared.Reply.the-variants.{Again, Said}
 use Rattle.answers.specs.Told.{repliedNumber, TellsApart}
 
 -- below 768: 0, AGAIN or a refusal
 abbrev short : ℕ → Reply
-short k = cond (eqb k 0) Taken (cond (eqb k 256) Again (Refused (refusalOf k)))
+short k = cond (eqb k 0) (Said Taken) (cond (eqb k 256) Again (Said (Refused (refusalOf k))))
 
 abbrev reply : ℕ → Reply
-reply k = cond (ltb k 768) (short k) (Value (k - 768))
+reply k = cond (ltb k 768) (short k) (Said (Value (k - 768)))
 
-refusal : (r : Refusal) → reply (numberOf r) ≡ Refused (refusalOf (numberOf r))
+refusal : (r : Refusal) → reply (numberOf r) ≡ Said (Refused (refusalOf (numberOf r)))
 refusal Size = refl
 refusal Length = refl
 refusal Qubit = refl
@@ -35,10 +36,10 @@ refusal Full = refl
 refusal Room = refl
 
 back : (x : Reply) → reply (repliedNumber (replies x)) ≡ x
-back Taken = refl
-back (Value v) = let e : 768 + v - 768 ≡ v = omega arith in rw (le-ltb (768 + v) 768 (omega arith)) (ap Value e)
 back Again = refl
-back (Refused r) = refusal r ∙ ap Refused (refusal-back r)
+back (Said Taken) = refl
+back (Said (Value v)) = let e : 768 + v - 768 ≡ v = omega arith in rw (le-ltb (768 + v) 768 (omega arith)) (ap (λ (k : ℕ). Said (Value k)) e)
+back (Said (Refused r)) = refusal r ∙ ap (λ (x : Refusal). Said (Refused x)) (refusal-back r)
 
 pub tells-apart : TellsApart
 tells-apart x y e = sym (back x) ∙ ap reply e ∙ back y

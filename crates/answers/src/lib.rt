@@ -48,9 +48,7 @@ pub fn tell_reply(reply: Reply) -> u32
     ensures { λ r. ⌜ r ≡ repliedNumber (replies reply) ⌝ }
 {
     match reply {
-        Reply::Taken => TAKEN,
-        Reply::Value(v) => VALUE + v as u32,
         Reply::Again => AGAIN,
-        Reply::Refused(refusal) => number_of(refusal),
+        Reply::Said(answer) => tell(answer),
     }
 }

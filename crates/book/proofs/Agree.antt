@@ -33,12 +33,12 @@ refusal-back Early = refl
 refusal-back Full = refl
 refusal-back Room = refl
 
-abbrev answerOf : Said → Answer
+abbrev pub answerOf : Said → Answer
 answerOf taken = Taken
 answerOf (value v) = Value v
 answerOf (refused k) = Refused (refusalOf k)
 
-answer-back : (a : Answer) → answerOf (says a) ≡ a
+pub answer-back : (a : Answer) → answerOf (says a) ≡ a
 answer-back Taken = refl
 answer-back (Value v) = refl
 answer-back (Refused r) = ap Refused (refusal-back r)

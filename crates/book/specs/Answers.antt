@@ -10,7 +10,7 @@ use Rattle.book.specs.declared.Refusal.the-variants.{Size, Length, Qubit
 use Rattle.book.specs.declared.Answer.{Answer}
 use Rattle.book.specs.declared.Answer.the-variants.{Taken, Value, Refused}
 use Rattle.book.specs.declared.Reply.{Reply}
-use Rattle.book.specs.declared.Reply.the-variants.{Taken as Taken′, Value as Value′, Again, Refused as Refused′}
+use Rattle.book.specs.declared.Reply.the-variants.{Again, Said as Says}
 
 -- 01's table
 abbrev pub numberOf : Refusal → ℕ
@@ -44,10 +44,8 @@ pub data Replied : Type 0 where
   said : Said → Replied
 
 abbrev pub replies : Reply → Replied
-replies Taken′ = said taken
-replies (Value′ v) = said (value v)
 replies Again = again
-replies (Refused′ r) = said (refused (numberOf r))
+replies (Says x) = said (says x)
 
 -- what a call gives that has a result to hand over: it, or a refusal's number
 pub data Gives (A : Type 0) : Type 0 where

@@ -135,12 +135,10 @@ pub enum Answer {
     Refused(Refusal),
 }
 
-// What a delivery answers.
+// What a delivery answers: AGAIN, or what a call answers.
 pub enum Reply {
-    Taken,
-    Value(u8),
     Again,
-    Refused(Refusal),
+    Said(Answer),
 }
 
 // Bytes are read as a record, or not.

@@ -13,19 +13,11 @@ pub struct Counted {
 pub fn ran(count: u16, next: u16, answer: Answer) -> Counted
     ensures { λ r. ⌜ Counts count next answer r ⌝ }
 {
+    let reply = Reply::Said(answer);
     match answer {
-        Answer::Taken => Counted {
-            count: next,
-            reply: Reply::Taken,
-        },
-        Answer::Value(v) => Counted {
-            count: next,
-            reply: Reply::Value(v),
-        },
-        Answer::Refused(refusal) => Counted {
-            count,
-            reply: Reply::Refused(refusal),
-        },
+        Answer::Taken => Counted { count: next, reply },
+        Answer::Value(_) => Counted { count: next, reply },
+        Answer::Refused(_) => Counted { count, reply },
     }
 }
 
@@ -36,9 +28,9 @@ pub fn passed(count: u16, size: Answer, reply: Reply) -> Counted
     match size {
         Answer::Taken => Counted { count, reply },
         Answer::Value(_) => Counted { count, reply },
-        Answer::Refused(wrong) => {
-            let reply = Reply::Refused(wrong);
-            Counted { count, reply }
-        }
+        Answer::Refused(_) => Counted {
+            count,
+            reply: Reply::Said(size),
+        },
     }
 }

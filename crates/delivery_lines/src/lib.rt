@@ -1,43 +1,64 @@
 // The line that the program prints of a delivery, at the start of a buffer of the caller's.
 use answers::number_of;
+use book::Answer;
 use book::Reply;
 use words::add;
 use words::add_number;
 ghost use Prim.Native.Nat.{_+_, _≤_};
 ghost use lib.ListN.{length};
-ghost use Rattle.book.specs.Answers.{replies};
-ghost use Rattle.delivery_lines.specs.Deliveries.{saying, adding, deliveryLine};
+ghost use Rattle.book.specs.Answers.{says, replies};
+ghost use Rattle.delivery_lines.specs.Deliveries.{answering, saying, valued, adding, deliveryLine};
 ghost use Rattle.words.specs.Words.{Added, Line};
 
-// What a delivery says, in front of the count.
-fn add_saying(out: &mut [u8], at: usize, reply: Reply) -> usize
+// What a call answers, in front of the count.
+fn add_answer(out: &mut [u8], at: usize, answer: Answer) -> usize
     requires { ⌜ at + 29 ≤ length (now out) ⌝ }
-    ensures { λ r. ⌜ Added (saying (replies reply)) 29 (now (out .entry)) at r (now (out .exit)) ⌝ }
+    ensures { λ r. ⌜ Added (answering (says answer)) 29 (now (out .entry)) at r (now (out .exit)) ⌝ }
 {
-    match reply {
-        Reply::Taken => add(out, at, b" TAKEN"),
-        Reply::Value(_) => add(out, at, b" TAKEN"),
-        Reply::Again => add(out, at, b" AGAIN"),
-        Reply::Refused(refusal) => {
+    match answer {
+        Answer::Taken => add(out, at, b" TAKEN"),
+        Answer::Value(_) => add(out, at, b" TAKEN"),
+        Answer::Refused(refusal) => {
             let behind = add(out, at, b" REFUSED ");
             add_number(out, behind, number_of(refusal) as u64)
         }
     }
 }
 
+// What a delivery says there.
+fn add_saying(out: &mut [u8], at: usize, reply: Reply) -> usize
+    requires { ⌜ at + 29 ≤ length (now out) ⌝ }
+    ensures { λ r. ⌜ Added (saying (replies reply)) 29 (now (out .entry)) at r (now (out .exit)) ⌝ }
+{
+    match reply {
+        Reply::Again => add(out, at, b" AGAIN"),
+        Reply::Said(answer) => add_answer(out, at, answer),
+    }
+}
+
 // A taken measurement or flip adds its value.
-fn add_value(out: &mut [u8], at: usize, reply: Reply) -> usize
+fn add_value(out: &mut [u8], at: usize, answer: Answer) -> usize
+    requires { ⌜ at + 27 ≤ length (now out) ⌝ }
+    ensures { λ r. ⌜ Added (valued (says answer)) 27 (now (out .entry)) at r (now (out .exit)) ⌝ }
+{
+    match answer {
+        Answer::Taken => at,
+        Answer::Value(v) => {
+            let behind = add(out, at, b" VALUE ");
+            add_number(out, behind, v as u64)
+        }
+        Answer::Refused(_) => at,
+    }
+}
+
+// What stands behind the count.
+fn add_behind(out: &mut [u8], at: usize, reply: Reply) -> usize
     requires { ⌜ at + 27 ≤ length (now out) ⌝ }
     ensures { λ r. ⌜ Added (adding (replies reply)) 27 (now (out .entry)) at r (now (out .exit)) ⌝ }
 {
     match reply {
-        Reply::Taken => at,
-        Reply::Value(v) => {
-            let behind = add(out, at, b" VALUE ");
-            add_number(out, behind, v as u64)
-        }
         Reply::Again => at,
-        Reply::Refused(_) => at,
+        Reply::Said(answer) => add_value(out, at, answer),
     }
 }
 
@@ -49,6 +70,6 @@ pub fn delivery_line(out: &mut [u8; 128], index: u64, reply: Reply, count: u16) 
     let behind_reply = add_saying(out, behind_index, reply);
     let behind_word = add(out, behind_reply, b" COUNT ");
     let behind_count = add_number(out, behind_word, count as u64);
-    let behind_value = add_value(out, behind_count, reply);
+    let behind_value = add_behind(out, behind_count, reply);
     add(out, behind_value, b"\n")
 }

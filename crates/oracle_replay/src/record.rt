@@ -1,6 +1,7 @@
 // The record of a case, delivered to a new session.
 use crate::case::Head;
 use crate::case::UNREAD;
+use book::Answer;
 use book::Reply;
 use libc::STDIN_FILENO;
 use sessions::Session;
@@ -19,10 +20,12 @@ const SLOT: usize = 94;
 
 fn told(reply: Reply) -> u8 {
     match reply {
-        Reply::Taken => 0,
-        Reply::Value(v) => std::num::wrapping_add_u8(VALUE, v),
         Reply::Again => REFUSED,
-        Reply::Refused(_) => REFUSED,
+        Reply::Said(answer) => match answer {
+            Answer::Taken => 0,
+            Answer::Value(v) => std::num::wrapping_add_u8(VALUE, v),
+            Answer::Refused(_) => REFUSED,
+        },
     }
 }
 

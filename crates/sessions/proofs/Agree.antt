@@ -2,11 +2,11 @@
 -- Assumes nothing.
 use Prim.Native.Nat.{ℕ}
 use mathlib.Core.Path.{_≡_, refl, sym, ap, ap₂, _∙_}
-use Rattle.book.proofs.Agree.{agree, refusalOf, refusal-back}
-use Rattle.book.specs.Answers.{taken, value, refused, Replied, again, said, replies, Gives, gives, denied, Buffers}
+use Rattle.book.proofs.Agree.{agree, refusalOf, refusal-back, answerOf, answer-back}
+use Rattle.book.specs.Answers.{Replied, again, said, replies, Gives, gives, denied, Buffers}
 use Rattle.book.specs.Sessions as Book
 use Rattle.book.specs.declared.Reply.{Reply}
-use Rattle.book.specs.declared.Reply.the-variants.{Taken, Value, Again, Refused}
+use Rattle.book.specs.declared.Reply.the-variants.{Again, Said}
 use Rattle.sessions.specs.Deliveries.{resumed, startedSays, Delivers}
 use Rattle.sessions.specs.declared.Delivered.{Delivered}
 use Rattle.sessions.specs.declared.Session.{Session}
@@ -15,15 +15,11 @@ use Rattle.sessions.specs.declared.Started.the-variants.{Fresh, Refused 
 
 abbrev replyOf : Replied → Reply
 replyOf again = Again
-replyOf (said taken) = Taken
-replyOf (said (value v)) = Value v
-replyOf (said (refused k)) = Refused (refusalOf k)
+replyOf (said x) = Said (answerOf x)
 
 reply-back : (x : Reply) → replyOf (replies x) ≡ x
-reply-back Taken = refl
-reply-back (Value v) = refl
 reply-back Again = refl
-reply-back (Refused r) = ap Refused (refusal-back r)
+reply-back (Said a) = ap Said (answer-back a)
 
 abbrev sessionOf : Book.Session → Session
 sessionOf s = resumed (s .n) (s .number) (s .count)

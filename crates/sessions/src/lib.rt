@@ -1,5 +1,6 @@
 // Sessions: each delivery takes the session and hands back the next one, with the answer. However often a record comes, it is run once.
 use act::act;
+use book::Answer;
 use book::MOST_QUBITS;
 use book::Read;
 use book::Refusal;
@@ -79,7 +80,7 @@ impl Session {
         ensures { λ r. ⌜ Delivers (deliver (meant self) (before reals imags) (now (bytes .entry))) r (after reals imags) ⌝ }
     {
         let Read::Record(it) = reader::read_record(bytes) else {
-            return self.passed(Reply::Refused(Refusal::Record), reals, imags);
+            return self.passed(Reply::Said(Answer::Refused(Refusal::Record)), reals, imags);
         };
         match stand(self.number, self.count, it) {
             Standing::Next(next) => {

@@ -1,4 +1,5 @@
 // Where a record stands to its session: 9, 11, AGAIN, 10, or the next one.
+use book::Answer;
 use book::Record;
 use book::Refusal;
 use book::Reply;
@@ -19,16 +20,16 @@ pub fn stand(own: u32, count: u16, it: Record) -> Standing
 {
     let at = it.number;
     if it.session != own {
-        return Standing::Answered(Reply::Refused(Refusal::Session));
+        return Standing::Answered(Reply::Said(Answer::Refused(Refusal::Session)));
     }
     if at == FULL {
-        return Standing::Answered(Reply::Refused(Refusal::Full));
+        return Standing::Answered(Reply::Said(Answer::Refused(Refusal::Full)));
     }
     if at < count {
         return Standing::Answered(Reply::Again);
     }
     if count < at {
-        return Standing::Answered(Reply::Refused(Refusal::Early));
+        return Standing::Answered(Reply::Said(Answer::Refused(Refusal::Early)));
     }
     Standing::Next(count + 1)
 }

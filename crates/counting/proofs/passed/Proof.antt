@@ -13,4 +13,4 @@ passed-spec =
     (λ c. search needs)
     (λ c. rw (c .enum-told .given .1) (record { counts = refl; reply = refl }))
     (λ c. rw (c .enum-told2 .given .1) (record { counts = refl; reply = refl }))
-    (λ c. rw (c .before .size .given .1) (record { counts = refl; reply = refl })))
+    (λ c. rw (c .enum-told3 .given .1) (record { counts = refl; reply = refl })))

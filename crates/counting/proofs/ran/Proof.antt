@@ -12,5 +12,5 @@ ran-spec =
     (λ c. search needs)
     (λ c. search needs)
     (λ c. rw (c .enum-told .given .1) (record { counts = refl; reply = refl }))
-    (λ c. rw (c .before .answer .given .1) (record { counts = refl; reply = refl }))
-    (λ c. rw (c .before .answer2 .given .1) (record { counts = refl; reply = refl })))
+    (λ c. rw (c .enum-told2 .given .1) (record { counts = refl; reply = refl }))
+    (λ c. rw (c .enum-told3 .given .1) (record { counts = refl; reply = refl })))

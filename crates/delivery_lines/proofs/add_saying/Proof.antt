@@ -1,6 +1,6 @@
--- `delivery_lines::add_saying`: each reply in its words, a refusal with its number. Assumes nothing.
+-- `delivery_lines::add_saying`: AGAIN, or what a call answers. Assumes nothing.
 use native.Mathlib.Omega.{arith}
-use Rattle.words.proofs.Writing.{then, within}
+use Rattle.words.proofs.Writing.{within}
 use borrow.Author.Needs.{needs}
 use Rattle.delivery_lines.proofs.add_saying.Statement.{statement}
 use Rattle.delivery_lines.proofs.add_saying.Tie as tie
@@ -9,17 +9,7 @@ returns : tie.Need-returns
 returns c = rw (c .before .before .before .before .before .enum-told .given .1) (within 29 (omega arith) (c .before .before .add .ensures))
 
 returns-2 : tie.Need-returns-2
-returns-2 c = rw (c .before .before .before .before .before .enum-told2 .given .1) (within 29 (omega arith) (c .before .before .add2 .ensures))
-
-returns-3 : tie.Need-returns-3
-returns-3 c = rw (c .before .before .before .before .before .enum-told3 .given .1) (within 29 (omega arith) (c .before .before .add3 .ensures))
-
-returns-4 : tie.Need-returns-4
-returns-4 c =
-    let numbered = c .before .before .before in
-    let worded = numbered .before .before .before .before in
-    let told = worded .before .before .before .before in
-    rw (told .reply .given .1, ← numbered .number-of .ensures) (then (worded .add4 .ensures) (c .before .before .add-number .ensures))
+returns-2 c = rw (c .before .before .before .before .before .reply .given .1) (c .before .before .add-answer .ensures)
 
 pub add-saying-spec : {M : Type 1} → statement M
 add-saying-spec =
@@ -29,22 +19,8 @@ add-saying-spec =
     (λ c. search needs)
     (λ c κs. search needs)
     (λ c. search needs)
-    (λ c. search needs)
-    (λ c κs. search needs)
-    (λ c. search needs)
-    (λ c. search needs)
-    (λ c κs. search needs)
-    (λ c. search needs)
-    (λ c. search needs)
-    (λ c κs. search needs)
-    (λ c κs. search needs)
-    (λ c. search needs)
     (λ c κs. search needs)
     (λ c. search needs)
     returns
     (λ c. search needs)
-    returns-2
-    (λ c. search needs)
-    returns-3
-    (λ c. search needs)
-    returns-4)
+    returns-2)

@@ -24,7 +24,7 @@ returns c =
     (then (reply .add-saying .ensures)
     (then (second-word .add2 .ensures)
     (then (count .add-number2 .ensures)
-    (then (value .add-value .ensures) (c .add3 .ensures)))))))
+    (then (value .add-behind .ensures) (c .add3 .ensures)))))))
 
 pub delivery-line-spec : {M : Type 1} → statement M
 delivery-line-spec =
