@@ -14,10 +14,10 @@ use lib.Dec.{ltb, eqb}
 use lib.ListN.{length, take, drop, getD, take-append-drop}
 use Rattle.book.specs.Answers.{refused, again, said, Replied, first, Buffers, outcomeOf, accepts}
 use Rattle.book.specs.Calls.{callOf, act}
-use Rattle.book.specs.ExactlyOnce.{Longest, In, Numbered, give, OneOf, AllOf, cons, seen, Given, ExactlyOnce, KeepsItsOwn}
+use Rattle.book.specs.ExactlyOnce.{Longest, In, Numbered, give, OneOf, AllOf, cons, seen, Given, ExactlyOnce}
 use Rattle.book.specs.Kernels.{badSize, mostQubits, badLength, sizeTests}
 use Rattle.book.specs.Records.{readRecord}
-use Rattle.book.specs.Sessions.{Session, session, raised, Delivery, kept, counted, standing, takeRecord, takeRead, takeSized, deliver, deliverAll}
+use Rattle.book.specs.Sessions.{Session, fresh, raised, Delivery, kept, counted, standing, takeRecord, takeRead, takeSized, deliver, deliverAll}
 use Rattle.book.specs.declared.Record.{Record}
 use Rattle.book.proofs.Calls.{sized-right}
 use Rattle.book.proofs.Found.{longest-none, longest-same, longest-next}
@@ -99,15 +99,13 @@ module _ (n : ℕ) where
 module _ (n own : ℕ) (b₀ : Buffers) (rs : List Record) (g : Given n own b₀ rs) where
   -- what holds between deliveries, with the records `xs` seen so far
   record Holds (xs : List Record) (s : Session) (b : Buffers) : Type 0 where
-    k : ℕ
     n-is : s .n ≡ n
     own-is : s .number ≡ own
-    count : s .count ≡ k
-    longest : Longest k rs xs
-    state : give n b₀ (take k rs) ≡ some b
+    longest : Longest (s .count) rs xs
+    state : give n b₀ (take (s .count) rs) ≡ some b
     fits : badLength (2 ^ n) b ≡ false
 
-  started : (t : Bool) → cond t none (some (session n own 0)) ≡ some (g .session) → (t ≡ false) × (g .session ≡ session n own 0)
+  started : (t : Bool) → cond t none (some (fresh n own)) ≡ some (g .session) → (t ≡ false) × (g .session ≡ fresh n own)
   started true e = let z : _≡_ {A = ℕ} 0 1 = cc in absurd (omega arith)
   started false e = (refl, cc)
 
@@ -120,7 +118,7 @@ module _ (n own : ℕ) (b₀ : Buffers) (rs : List Record) (g : Given n own b₀
 
   module _ (s : Session) (b : Buffers) (xs : List Record) (h : Holds xs s b) where
     k : ℕ
-    k = h .k
+    k = s .count
 
     ready : (bytes : List ℕ) → deliver s b bytes ≡ takeRead s b bytes (readRecord bytes)
     unfolding deliver
@@ -130,7 +128,7 @@ module _ (n own : ℕ) (b₀ : Buffers) (rs : List Record) (g : Given n own b₀
     stays : (ys : List Record) (d : Delivery) (x : Replied) → d ≡ kept s b x → Longest k rs ys → Holds ys (d .next) (d .left)
     unfolding k
     stays ys d x e m =
-        rw e (record { k = h .k; n-is = h .n-is; own-is = h .own-is; count = h .count; longest = m; state = h .state; fits = h .fits })
+        rw e (record { n-is = h .n-is; own-is = h .own-is; longest = m; state = h .state; fits = h .fits })
 
     module _ (r : Record) (p : Placed own 0 r rs) where
       -- the tests 9 and 11, that a record of the list passes
@@ -145,7 +143,7 @@ module _ (n own : ℕ) (b₀ : Buffers) (rs : List Record) (g : Given n own b₀
       unfolding k
       not-next other =
           longest-same r (h .longest)
-          (λ room e. other (ap (λ (y : Record). y .number) (sym e) ∙ numbered-at own 0 rs (h .k) r (g .made) room .1 ∙ zero-add (h .k)))
+          (λ room e. other (ap (λ (y : Record). y .number) (sym e) ∙ numbered-at own 0 rs k r (g .made) room .1 ∙ zero-add k))
 
       module _ (bytes : List ℕ) (d : Delivery) (is : d ≡ takeRecord s b bytes r (standing s r)) where
         answered : (x : Option Replied) → standing s r ≡ x → d ≡ takeRecord s b bytes r x
@@ -155,20 +153,21 @@ module _ (n own : ℕ) (b₀ : Buffers) (rs : List Record) (g : Given n own b₀
         unfolding k
         repeated m =
             stays (xs ++ (r ∷ [])) d again (answered (some again) (rw (theirs, not-full, lt-ltb (r .number) (s .count) m)))
-            (not-next (λ e. omega (arith, h .count)))
+            (not-next (λ e. omega arith))
 
         early : s .count < r .number → Holds (xs ++ (r ∷ [])) (d .next) (d .left)
         unfolding k
         early m =
             stays (xs ++ (r ∷ [])) d (said (refused 10))
             (answered (some (said (refused 10))) (rw (theirs, not-full, le-ltb (r .number) (s .count) (omega arith), lt-ltb (s .count) (r .number) m)))
-            (not-next (λ e. omega (arith, h .count)))
+            (not-next (λ e. omega arith))
 
         next : r .number ≡ s .count → Holds (xs ++ (r ∷ [])) (d .next) (d .left)
+        unfolding k
         next m =
-            let i-is : p .i ≡ h .k = omega (arith, p .is, h .count) in
-            let start : take (suc (h .k)) rs ≡ take (h .k) rs ++ (r ∷ []) = subst (λ (j : ℕ). take (suc j) rs ≡ take j rs ++ (r ∷ [])) i-is (p .start) in
-            let took : accepts (act n (r .gate) b .says) ≡ true = next-accepted n rs r (h .k) b₀ b (g .last) start (g .accepted) (h .state) in
+            let i-is : p .i ≡ k = omega (arith, p .is) in
+            let start : take (suc k) rs ≡ take k rs ++ (r ∷ []) = subst (λ (j : ℕ). take (suc j) rs ≡ take j rs ++ (r ∷ [])) i-is (p .start) in
+            let took : accepts (act n (r .gate) b .says) ≡ true = next-accepted n rs r k b₀ b (g .last) start (g .accepted) (h .state) in
             let does : outcomeOf [] b (callOf (s .n) (r .gate) b) ≡ act n (r .gate) b =
             ap (λ (m : ℕ). outcomeOf [] b (callOf m (r .gate) b)) (h .n-is) ∙ acts b (h .fits) r in
             let goes : standing s r ≡ none =
@@ -177,12 +176,10 @@ module _ (n own : ℕ) (b₀ : Buffers) (rs : List Record) (g : Given n own b₀
             answered none goes ∙ ap (counted s b bytes) does ∙ rw took in
             rw made
             (record {
-              k = h .k + 1;
               n-is = h .n-is;
               own-is = h .own-is;
-              count = omega (arith, h .count);
               longest = longest-next r (h .longest) (omega (arith, p .within)) start;
-              state = rw (add-one, start) (give-one-more n (take (h .k) rs) r b₀ b (h .state) took);
+              state = rw (add-one, start) (give-one-more n (take k rs) r b₀ b (h .state) took);
               fits = act-fits n b (h .fits) (r .gate);
             })
 
@@ -201,7 +198,7 @@ module _ (n own : ℕ) (b₀ : Buffers) (rs : List Record) (g : Given n own b₀
     other-session r other bytes d is =
         let nine : standing s r ≡ some (said (refused 9)) = rw (ne-eqb (r .session) (s .number) (λ e. other (e ∙ h .own-is))) in
         stays (xs ++ (r ∷ [])) d (said (refused 9)) (is ∙ ap (takeRecord s b bytes r) nine)
-        (longest-same r (h .longest) (λ room e. other (ap (λ (y : Record). y .session) (sym e) ∙ numbered-at own 0 rs (h .k) r (g .made) room .0)))
+        (longest-same r (h .longest) (λ room e. other (ap (λ (y : Record). y .session) (sym e) ∙ numbered-at own 0 rs k r (g .made) room .0)))
 
     one : (bytes : List ℕ) → OneOf own rs bytes → (d : Delivery) → d ≡ takeRead s b bytes (readRecord bytes)
         → Holds (xs ++ cons (readRecord bytes) []) (d .next) (d .left)
@@ -240,18 +237,10 @@ module _ (n own : ℕ) (b₀ : Buffers) (rs : List Record) (g : Given n own b₀
       (append-assoc xs (cons (readRecord bytes) []) (seen ds) ∙ ap (λ (l : List Record). xs ++ l) (cons-append (readRecord bytes) (seen ds)))
       (steps ds (xs ++ cons (readRecord bytes) []) (d .next) (d .left) (w .1) (step xs s b bytes (w .0) h))
 
-  fresh : Holds [] (g .session) b₀
-  fresh =
-      let is = started (badSize mostQubits n) (g .fresh) .1 in
-      record {
-        k = 0;
-        n-is = ap (λ (s : Session). s .n) is;
-        own-is = ap (λ (s : Session). s .number) is;
-        count = ap (λ (s : Session). s .count) is;
-        longest = longest-none rs;
-        state = refl;
-        fits = g .fits;
-      }
+  begins : Holds [] (g .session) b₀
+  begins =
+      subst (λ (s : Session). Holds [] s b₀) (sym (started (badSize mostQubits n) (g .fresh) .1))
+      (record { n-is = refl; own-is = refl; longest = longest-none rs; state = refl; fits = g .fits })
 
 seen-append : (ds : List (List ℕ)) (bytes : List ℕ) → seen ds ++ cons (readRecord bytes) [] ≡ seen (ds ++ (bytes ∷ []))
 seen-append [] bytes = refl
@@ -262,19 +251,19 @@ seen-append (d ∷ ds) bytes = by (readRecord d) (seen ds) (cons (readRecord byt
     by none xs ys zs e = e
 
 -- the session that was started is the fresh one
-pub fresh-is : {n own : ℕ} {b : Buffers} {rs : List Record} (g : Given n own b rs) → g .session ≡ session n own 0
+pub fresh-is : {n own : ℕ} {b : Buffers} {rs : List Record} (g : Given n own b rs) → g .session ≡ fresh n own
 fresh-is {n} {own} {b} {rs} g = started n own b rs g (badSize mostQubits n) (g .fresh) .1
 
 pub exactly-once : ExactlyOnce
 exactly-once n own b rs g ds bytes all one =
     let bench = deliverAll (record { session = g .session; state = b }) ds in
-    let before = steps n own b rs g ds [] (g .session) b all (fresh n own b rs g) in
+    let before = steps n own b rs g ds [] (g .session) b all (begins n own b rs g) in
     let h = step n own b rs g (seen ds) (bench .session) (bench .state) bytes one before in
-    rw (← seen-append) (record { k = h .k; counts = h .count; longest = h .longest; state = h .state })
+    rw (← seen-append) (record { longest = h .longest; state = h .state })
 
 -- ---- a delivery keeps n and the session's number
 
-abbrev Own : Session → Delivery → Type 0
+abbrev pub Own : Session → Delivery → Type 0
 Own s d = (d .next .n ≡ s .n) × (d .next .number ≡ s .number)
 
 module _ (s : Session) (b : Buffers) (bytes : List ℕ) where
@@ -294,6 +283,6 @@ module _ (s : Session) (b : Buffers) (bytes : List ℕ) where
   sized-own zero = read-own (readRecord bytes)
   sized-own (suc k) = (refl, refl)
 
-pub keeps-its-own : KeepsItsOwn
+pub keeps-its-own : (s : Session) (b : Buffers) (bytes : List ℕ) → Own s (deliver s b bytes)
 unfolding deliver
 keeps-its-own s b bytes = sized-own s b bytes (first (sizeTests (s .n) b))

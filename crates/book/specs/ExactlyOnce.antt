@@ -77,13 +77,11 @@ pub record Given (n own : ℕ) (b : Buffers) (rs : List Record) : Type 0 where
   pub last : Buffers
   pub accepted : give n b rs ≡ some last
 
--- After a delivery: the buffers are what the first k records give, once each, and the answer's count is k,
--- the length of the longest start of the list found in order among the records delivered so far.
-pub record Once (n : ℕ) (b : Buffers) (rs so-far : List Record) (count : ℕ) (left : Buffers) : Type 0 where
-  pub k : ℕ
-  pub counts : count ≡ k
-  pub longest : Longest k rs so-far
-  pub state : give n b (take k rs) ≡ some left
+-- After a delivery: the session's count k is the length of the longest start of the list found in order among the records delivered so far,
+-- and the buffers are what the first k records give, once each.
+pub record Once (n : ℕ) (b : Buffers) (rs so-far : List Record) (s : Session) (left : Buffers) : Type 0 where
+  pub longest : Longest (s .count) rs so-far
+  pub state : give n b (take (s .count) rs) ≡ some left
 
 -- Whatever was delivered before, `ds`, and whatever comes now, `bytes`.
 abbrev pub ExactlyOnce : Type 0
@@ -92,10 +90,4 @@ ExactlyOnce =
     → (ds : List (List ℕ)) (bytes : List ℕ) → AllOf own rs ds → OneOf own rs bytes
     → let bench = deliverAll (record { session = given .session; state = b }) ds in
     let d = deliver (bench .session) (bench .state) bytes in
-    Once n b rs (seen (ds ++ (bytes ∷ []))) (d .next .count) (d .left)
-
--- A delivery keeps n and the session's number.
-abbrev pub KeepsItsOwn : Type 0
-KeepsItsOwn =
-    (s : Session) (b : Buffers) (bytes : List ℕ)
-    → (deliver s b bytes .next .n ≡ s .n) × (deliver s b bytes .next .number ≡ s .number)
+    Once n b rs (seen (ds ++ (bytes ∷ []))) (d .next) (d .left)

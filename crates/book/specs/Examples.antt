@@ -12,7 +12,7 @@ use Rattle.book.specs.Answers.{Said, taken, value, refused, Buffers, buf
 use Rattle.book.specs.Calls.{act}
 use Rattle.book.specs.Gates.{F}
 use Rattle.book.specs.Records.{writeRecord}
-use Rattle.book.specs.Sessions.{Session, session, deliver}
+use Rattle.book.specs.Sessions.{Session, fresh, deliver}
 use Rattle.book.specs.State.{controlled, uncontrolled}
 use Rattle.book.specs.declared.Gate.the-variants.{H, X, Y, Swap, Measure}
 use Rattle.book.specs.declared.Record.{Record}
@@ -111,7 +111,7 @@ twelve =
     ∷ writeRecord (record { session = 7; number = 0; gate = X 1 (controlled 4) })
     is (0x01 ∷ 0x00 ∷ 0x04 ∷ 0x00 ∷ 0x00 ∷ 0x00 ∷ 0x07 ∷ 0x02 ∷ 0x00 ∷ 0x02 ∷ 0x00 ∷ 0x00 ∷ 0x03 ∷ 0x00 ∷ 0x01 ∷ 0x02
     ∷ 0x04 ∷ 0x00 ∷ 0x01 ∷ 0x01 ∷ 0x05 ∷ 0x00 ∷ 0x04 ∷ 0x00 ∷ 0x00 ∷ 0x00 ∷ 0x04 ∷ [])
-    ∷ counts (session 1 7 0) (real (1 ∷ 0 ∷ [])) (map (λ k. writeRecord (xNumbered k)) (0 ∷ 0 ∷ 2 ∷ 1 ∷ [])) is (1 ∷ 1 ∷ 1 ∷ 2 ∷ [])
+    ∷ counts (fresh 1 7) (real (1 ∷ 0 ∷ [])) (map (λ k. writeRecord (xNumbered k)) (0 ∷ 0 ∷ 2 ∷ 1 ∷ [])) is (1 ∷ 1 ∷ 1 ∷ 2 ∷ [])
     ∷ []
 
 -- ---- of document 02

@@ -16,16 +16,16 @@ pub record Session : Type 0 where
   pub number : ℕ
   pub count : ℕ
 
-abbrev pub session : ℕ → ℕ → ℕ → Session
-session n own count = record { n = n; number = own; count = count }
-
 -- it starts at 0; a bad n is refusal 1, and gives no session
+abbrev pub fresh : ℕ → ℕ → Session
+fresh n own = record { n = n; number = own; count = 0 }
+
 abbrev pub start : ℕ → ℕ → Option Session
-start n own = cond (badSize mostQubits n) none (some (session n own 0))
+start n own = cond (badSize mostQubits n) none (some (fresh n own))
 
 -- a record was taken, of these bytes
 abbrev pub raised : Session → List ℕ → Session
-raised s bytes = session (s .n) (s .number) (s .count + 1)
+raised s bytes = record { n = s .n; number = s .number; count = s .count + 1 }
 
 -- ---- a delivery: the next session, what is said, and what the buffers hold
 

@@ -13,7 +13,7 @@ use Rattle.book.specs.Examples.{real, whole, ofBits64}
 use Rattle.book.specs.ExactlyOnce.{Numbered, give, Given}
 use Rattle.book.specs.Kernels.{sizeTests, seatTests, swapped}
 use Rattle.book.specs.Measuring.{measured, probability, summed}
-use Rattle.book.specs.Sessions.{session}
+use Rattle.book.specs.Sessions.{fresh}
 use Rattle.book.specs.State.{tabulate, held, controlled, uncontrolled, chosen, choice, placed, onPairs}
 use Rattle.book.specs.declared.Angle.{Angle}
 use Rattle.book.specs.declared.Angles.{Angles}
@@ -79,7 +79,7 @@ unfolding fused root first sizeTests seatTests swapped measured probability summ
     le lt eq div add sub mul neg ones ofInt ofBits
 given =
     record {
-      session = session 2 7 0;
+      session = fresh 2 7;
       fresh = refl;
       fits = refl;
       few = omega arith;

@@ -6,10 +6,9 @@ use native.Mathlib.Numerals.{add-one, unary-clauses}
 use native.Mathlib.Omega.{arith}
 use lib.ListN.{length, take, drop, getD, drop-of-length-le, length-drop}
 use lib.Seq.{drop-cons, drop-drop}
-use Rattle.book.proofs.ExactlyOnce.{keeps-its-own}
 use Rattle.book.specs.Answers.{Buffers}
 use Rattle.book.specs.Lent.{SameSize}
-use Rattle.book.specs.Sessions.{Session, session, Bench, deliver, deliverAll}
+use Rattle.book.specs.Sessions.{Session, Bench, deliver, deliverAll}
 use Rattle.once.specs.AllOnce.{cut, bench, AllOnce}
 use Rattle.once.proofs.Runs.{all-once}
 
@@ -62,13 +61,6 @@ turn {bytes} {lengths} {start} {at} {i} {size} {s} {s′} {b} {b′} h room is n
           (ap (λ (ls : List ℕ). deliverAll (bench s b) (cut (drop at bytes) ls)) (sym (drop-cons lengths i 0 room)))
           ∙ h .run;
     }
-
--- where the caller keeps the session's three numbers, a delivery changes the count alone
-pub count-alone : (n own k : ℕ) (b : Buffers) (bytes : List ℕ) {k′ : ℕ} → k′ ≡ deliver (session n own k) b bytes .next .count
-    → session n own k′ ≡ deliver (session n own k) b bytes .next
-count-alone n own k b bytes e =
-    let keeps = keeps-its-own (session n own k) b bytes in
-    λ i. record { n = sym (keeps .0) i; number = sym (keeps .1) i; count = e i }
 
 pub ends : {bytes lengths : List ℕ} {at i : ℕ} {s s′ : Session} {b b′ : Buffers}
     → Left bytes lengths (bench s b) at i (bench s′ b′) → length lengths ≤ i → AllOnce s b (cut bytes lengths) s′ b′

@@ -7,7 +7,7 @@ use Rattle.book.proofs.ExactlyOnce.{exactly-once, fresh-is}
 use Rattle.book.proofs.Found.{longest-none}
 use Rattle.book.specs.Answers.{Buffers}
 use Rattle.book.specs.ExactlyOnce.{OneOf, AllOf, seen, Given, Once}
-use Rattle.book.specs.Sessions.{Session, Bench, session, deliver, deliverAll}
+use Rattle.book.specs.Sessions.{Session, fresh, Bench, deliver, deliverAll}
 use Rattle.book.specs.declared.Record.{Record}
 use Rattle.once.specs.AllOnce.{bench, AllOnce}
 
@@ -31,32 +31,31 @@ run-last x (d ∷ ds) bytes = run-last (bench (deliver (x .session) (x .state) d
 
 module _ {n own : ℕ} {b : Buffers} {rs : List Record} (g : Given n own b rs) where
   abbrev After : List (List ℕ) → Bench → Type 0
-  After ds x = Once n b rs (seen ds) (x .session .count) (x .state)
+  After ds x = Once n b rs (seen ds) (x .session) (x .state)
 
   -- before any delivery
-  before-any : After [] (bench (session n own 0) b)
-  before-any = record { k = 0; counts = refl; longest = longest-none rs; state = refl }
+  before-any : After [] (bench (fresh n own) b)
+  before-any = record { longest = longest-none rs; state = refl }
 
   after-last : (ds : List (List ℕ)) (bytes : List ℕ) → AllOf own rs (ds ++ (bytes ∷ []))
-      → After (ds ++ (bytes ∷ [])) (deliverAll (bench (session n own 0) b) (ds ++ (bytes ∷ [])))
+      → After (ds ++ (bytes ∷ [])) (deliverAll (bench (fresh n own) b) (ds ++ (bytes ∷ [])))
   after-last ds bytes w =
       let (all, one) = all-last own rs ds bytes w in
-      rw (run-last (bench (session n own 0) b) ds bytes, ← fresh-is g) (exactly-once n own b rs g ds bytes all one)
+      rw (run-last (bench (fresh n own) b) ds bytes, ← fresh-is g) (exactly-once n own b rs g ds bytes all one)
 
-  after-all : (ds : List (List ℕ)) → AllOf own rs ds → After ds (deliverAll (bench (session n own 0) b) ds)
+  after-all : (ds : List (List ℕ)) → AllOf own rs ds → After ds (deliverAll (bench (fresh n own) b) ds)
   after-all [] w = before-any
   after-all (d ∷ ds) w =
       let (start, last, e) = last-of d ds in
-      subst (λ (l : List (List ℕ)). After l (deliverAll (bench (session n own 0) b) l)) (sym e) (after-last start last (subst (AllOf own rs) e w))
+      subst (λ (l : List (List ℕ)). After l (deliverAll (bench (fresh n own) b) l)) (sym e) (after-last start last (subst (AllOf own rs) e w))
 
 pub all-once : (s : Session) (b : Buffers) (ds : List (List ℕ)) (s′ : Session) (b′ : Buffers) → bench s′ b′ ≡ deliverAll (bench s b) ds → AllOnce s b ds s′ b′
 all-once s b ds s′ b′ run =
     record {
       run = search;
-      once = λ rs g zero all.
-          let fresh : session (s .n) (s .number) 0 ≡ s = λ i. session (s .n) (s .number) (sym zero i) in
-          subst (λ (x : Bench). Once (s .n) b rs (seen ds) (x .session .count) (x .state))
-          (ap (λ (t : Session). deliverAll (bench t b) ds) fresh ∙ sym run)
+      once = λ rs g is all.
+          subst (λ (x : Bench). Once (s .n) b rs (seen ds) (x .session) (x .state))
+          (ap (λ (t : Session). deliverAll (bench t b) ds) (sym is) ∙ sym run)
           (after-all g ds all);
     }
 

@@ -4,7 +4,8 @@ use mathlib.Core.List.{List, [], _++_}
 use mathlib.Core.Path.{_≡_}
 use lib.ListN.{length, drop, replicate}
 use Rattle.book.specs.Answers.{Buffers}
-use Rattle.book.specs.Sessions.{Session, session, deliverAll}
+use Rattle.book.specs.Sessions.{Session, deliverAll}
+use Rattle.book.specs.Sessions as Book
 use Rattle.feeding.specs.Feeding.{Form, form, formOf, cuts, TakesAll}
 use Rattle.first_state.specs.First.{firstState}
 use Rattle.frames.specs.Streams.{begun, streamOf}
@@ -27,7 +28,7 @@ linesOf s b bytes =
 
 -- or BAD HEADER alone
 abbrev pub printedBy : Header → List ℕ → List ℕ
-printedBy (Good n own) bytes = linesOf (session n own 0) (firstState n) bytes
+printedBy (Good n own) bytes = linesOf (Book.fresh n own) (firstState n) bytes
 printedBy Bad bytes = badHeaderLine
 
 unfoldable pub printed : List ℕ → List ℕ
@@ -45,7 +46,7 @@ runOf r = record { index = r .index; form = formOf (r .feed) }
 
 -- behind the header
 abbrev pub fresh : ℕ → ℕ → Run
-fresh n own = record { index = 0; form = form (session n own 0) 0 (replicate 97 0) }
+fresh n own = record { index = 0; form = form (Book.fresh n own) 0 (replicate 97 0) }
 
 -- A piece of the input is taken, and the lines of its answers are put behind a place of the output.
 pub record Prints (x : Run) (b : Buffers) (piece before : List ℕ) (at : ℕ) (x′ : Run) (b′ : Buffers) (next : ℕ) (after : List ℕ) : Type 0 where

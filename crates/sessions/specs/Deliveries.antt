@@ -13,7 +13,7 @@ use Rattle.sessions.specs.declared.Started.{Started}
 use Rattle.sessions.specs.declared.Started.the-variants.{Fresh, Refused as Unstarted}
 
 abbrev pub meant : Session → Book.Session
-meant s = Book.session (s .n) (s .number) (s .count)
+meant s = record { n = s .n; number = s .number; count = s .count }
 
 abbrev pub resumed : ℕ → ℕ → ℕ → Session
 resumed n own count = record { n = n; number = own; count = count }

@@ -8,7 +8,8 @@ use lib.ListN.{length, take, drop}
 use lib.Seq.{take-all, take-add}
 use Rattle.book.specs.Answers.{Buffers}
 use Rattle.book.specs.Lent.{SameSize}
-use Rattle.book.specs.Sessions.{session, Bench, deliverAll}
+use Rattle.book.specs.Sessions as Book
+use Rattle.book.specs.Sessions.{Bench, deliverAll}
 use Rattle.feeding.specs.Feeding.{restIn, cuts}
 use Rattle.headers.specs.Headers.{headerOf}
 use Rattle.frames.specs.Streams.{Rest, begun, streamOf}
@@ -82,14 +83,14 @@ closed {x} {x′} {b} {b′} {bytes} p put first fresh =
 
 pub from-start : (n own : ℕ) (bytes : List ℕ) {x : Run} {b : Buffers} {l l′ : List ℕ} {next : ℕ} → x ≡ fresh n own → b ≡ firstState n
     → (x .index ≡ 0 → restIn (x .form) ≡ begun [] → Put (linesOf (x .form .session) b bytes) l 0 next l′)
-    → Put (linesOf (session n own 0) (firstState n) bytes) l 0 next l′
+    → Put (linesOf (Book.fresh n own) (firstState n) bytes) l 0 next l′
 from-start n own bytes {l = l} {l′ = l′} {next = next} is state put =
     subst (λ (ws : List ℕ). Put ws l 0 next l′)
     (ap₂ (λ (y : Run) (c : Buffers). linesOf (y .form .session) c bytes) is state)
     (put (ap (λ (y : Run). y .index) is) (ap (λ (y : Run). restIn (y .form)) is ∙ fresh-rest n own))
 
 pub printed-good : (input : List ℕ) {h : Header} {n own next : ℕ} {frames l l′ : List ℕ} → h ≡ headerOf input → h ≡ Good n own → frames ≡ drop 8 input
-    → Put (linesOf (session n own 0) (firstState n) frames) l 0 next l′ → Put (printed input) l 0 next l′
+    → Put (linesOf (Book.fresh n own) (firstState n) frames) l 0 next l′ → Put (printed input) l 0 next l′
 unfolding printed
 printed-good input {h} {n} {own} {next} {frames} {l} {l′} is good behind put =
     subst (λ (ws : List ℕ). Put ws l 0 next l′) (ap₂ printedBy (sym good ∙ is) behind) put

@@ -65,7 +65,7 @@ fn put_lines(
 // In the places of n qubits.
 fn put_run(n: u32, number: u32, frames: &[u8], out: &mut [u8]) -> usize
     requires { ⌜ n ≤ 11 ⌝ }
-    ensures { λ r. ⌜ Put (linesOf (Book.session n number 0) (firstState n) (now (frames .entry))) (now (out .entry)) 0 r (now (out .exit)) ⌝ }
+    ensures { λ r. ⌜ Put (linesOf (Book.fresh n number) (firstState n) (now (frames .entry))) (now (out .entry)) 0 r (now (out .exit)) ⌝ }
 {
     let size: usize = 1 << n;
     let mut reals = first_reals();
