@@ -1,11 +1,12 @@
 // An answer as one number, laid out for all that is to come: the low byte is a refusal's number or a value, and what stands above it says which.
-// 0 taken, 1 to 255 a refusal, 256 AGAIN, 768 + v a value v; 512 + v is kept for an AGAIN that tells a value.
+// 0 taken, 1 to 255 a refusal, 256 AGAIN, 512 + v an AGAIN that tells the value v, 768 + v a value v. And a value or none as a word that a caller keeps.
 use book::Answer;
 use book::Refusal;
 use book::Reply;
+use book::ValueOrNone;
 ghost use mathlib.Core.Path.{_≡_};
-ghost use Rattle.book.specs.Answers.{numberOf, says, replies};
-ghost use Rattle.answers.specs.Told.{saidNumber, repliedNumber};
+ghost use Rattle.book.specs.Answers.{numberOf, says, valueOrNone, replies};
+ghost use Rattle.answers.specs.Told.{saidNumber, againNumber, repliedNumber, valueWord, valueIn};
 
 pub const TAKEN: u32 = 0;
 
@@ -13,6 +14,9 @@ pub const TAKEN: u32 = 0;
 const VALUE: u32 = 768;
 
 const AGAIN: u32 = 256;
+
+// An AGAIN that tells a value v is AGAIN_VALUE + v.
+const AGAIN_VALUE: u32 = 512;
 
 // 01's table.
 pub fn number_of(refusal: Refusal) -> u32
@@ -44,11 +48,40 @@ pub fn tell(answer: Answer) -> u32
     }
 }
 
+fn tell_again(told: ValueOrNone) -> u32
+    ensures { λ r. ⌜ r ≡ againNumber (valueOrNone told) ⌝ }
+{
+    match told {
+        ValueOrNone::None => AGAIN,
+        ValueOrNone::Value(v) => AGAIN_VALUE + v as u32,
+    }
+}
+
 pub fn tell_reply(reply: Reply) -> u32
     ensures { λ r. ⌜ r ≡ repliedNumber (replies reply) ⌝ }
 {
     match reply {
-        Reply::Again => AGAIN,
+        Reply::Again(told) => tell_again(told),
         Reply::Said(answer) => tell(answer),
     }
+}
+
+// The word of a value, or of none.
+pub fn word_of(value: ValueOrNone) -> u32
+    ensures { λ r. ⌜ r ≡ valueWord (valueOrNone value) ⌝ }
+{
+    match value {
+        ValueOrNone::None => 0,
+        ValueOrNone::Value(v) => v as u32 + 1,
+    }
+}
+
+// The value that a word is, whatever the word.
+pub fn value_in(word: u32) -> ValueOrNone
+    ensures { λ r. ⌜ valueOrNone r ≡ valueIn word ⌝ }
+{
+    if word == 0 {
+        return ValueOrNone::None;
+    }
+    ValueOrNone::Value(((word - 1) % 256) as u8)
 }

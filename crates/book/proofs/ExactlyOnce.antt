@@ -5,19 +5,19 @@ use mathlib.Core.Bool.{Bool, true, false, cond}
 use mathlib.Core.List.{List, [], _∷_, _++_, append-nil, append-assoc}
 use mathlib.Core.Logic.{inl, inr, ⊎-elim}
 use mathlib.Core.Option.{Option, some, none}
-use mathlib.Core.Path.{_≡_, refl, sym, ap, _∙_, subst}
+use mathlib.Core.Path.{_≡_, refl, sym, ap, ap₂, _∙_, subst}
 use native.Mathlib.Nat.{add-zero, zero-add}
 use native.Mathlib.Numerals.{add-one}
 use native.Mathlib.Omega.{arith}
 use borrow.Author.Tests.{lt-ltb, le-ltb, eq-eqb, ne-eqb, ltb-true, ltb-false}
 use lib.Dec.{ltb, eqb}
 use lib.ListN.{length, take, drop, getD, take-append-drop}
-use Rattle.book.specs.Answers.{refused, again, said, Replied, first, Buffers, outcomeOf, accepts}
+use Rattle.book.specs.Answers.{refused, again, said, Replied, first, Buffers, Outcome, outcomeOf, accepts}
 use Rattle.book.specs.Calls.{callOf, act}
-use Rattle.book.specs.ExactlyOnce.{Longest, In, Numbered, give, OneOf, AllOf, cons, seen, Given, ExactlyOnce}
+use Rattle.book.specs.ExactlyOnce.{Longest, In, Numbered, give, lastValue, OneOf, AllOf, cons, seen, Given, ExactlyOnce}
 use Rattle.book.specs.Kernels.{badSize, mostQubits, badLength, sizeTests}
 use Rattle.book.specs.Records.{readRecord}
-use Rattle.book.specs.Sessions.{Session, fresh, raised, Delivery, kept, counted, standing, takeRecord, takeRead, takeSized, deliver, deliverAll}
+use Rattle.book.specs.Sessions.{Session, fresh, raised, Delivery, kept, counted, toldAgain, standing, takeRecord, takeRead, takeSized, deliver, deliverAll}
 use Rattle.book.specs.declared.Record.{Record}
 use Rattle.book.proofs.Calls.{sized-right}
 use Rattle.book.proofs.Found.{longest-none, longest-same, longest-next}
@@ -84,6 +84,14 @@ module _ (n : ℕ) where
       ap (λ (t : Bool). cond t (give n (act n (y .gate) b .left) (xs ++ (r ∷ []))) none) t
       ∙ give-one-more xs r (act n (y .gate) b .left) mid rest a
 
+  -- the last of them has its value from what those before it gave
+  last-one-more : (xs : List Record) (r : Record) (b mid : Buffers) (v : Option ℕ) → give n b xs ≡ some mid
+      → lastValue n b v (xs ++ (r ∷ [])) ≡ callOf n (r .gate) mid .answer
+  last-one-more [] r b mid v h = let p : b ≡ mid = cc h in ap (λ (m : Buffers). callOf n (r .gate) m .answer) p
+  last-one-more (y ∷ xs) r b mid v h =
+      let (t, rest) = went (accepts (act n (y .gate) b .says)) (give n (act n (y .gate) b .left) xs) mid h in
+      last-one-more xs r (act n (y .gate) b .left) mid (callOf n (y .gate) b .answer) rest
+
   -- where all are accepted, the next one is
   next-accepted : (rs : List Record) (r : Record) (k : ℕ) (b mid e : Buffers) → take (suc k) rs ≡ take k rs ++ (r ∷ [])
       → give n b rs ≡ some e → give n b (take k rs) ≡ some mid → accepts (act n (r .gate) mid .says) ≡ true
@@ -103,6 +111,7 @@ module _ (n own : ℕ) (b₀ : Buffers) (rs : List Record) (g : Given n own b₀
     own-is : s .number ≡ own
     longest : Longest (s .count) rs xs
     state : give n b₀ (take (s .count) rs) ≡ some b
+    value : s .value ≡ lastValue n b₀ none (take (s .count) rs)
     fits : badLength (2 ^ n) b ≡ false
 
   started : (t : Bool) → cond t none (some (fresh n own)) ≡ some (g .session) → (t ≡ false) × (g .session ≡ fresh n own)
@@ -128,7 +137,7 @@ module _ (n own : ℕ) (b₀ : Buffers) (rs : List Record) (g : Given n own b₀
     stays : (ys : List Record) (d : Delivery) (x : Replied) → d ≡ kept s b x → Longest k rs ys → Holds ys (d .next) (d .left)
     unfolding k
     stays ys d x e m =
-        rw e (record { n-is = h .n-is; own-is = h .own-is; longest = m; state = h .state; fits = h .fits })
+        rw e (record { n-is = h .n-is; own-is = h .own-is; longest = m; state = h .state; value = h .value; fits = h .fits })
 
     module _ (r : Record) (p : Placed own 0 r rs) where
       -- the tests 9 and 11, that a record of the list passes
@@ -152,7 +161,8 @@ module _ (n own : ℕ) (b₀ : Buffers) (rs : List Record) (g : Given n own b₀
         repeated : r .number < s .count → Holds (xs ++ (r ∷ [])) (d .next) (d .left)
         unfolding k
         repeated m =
-            stays (xs ++ (r ∷ [])) d again (answered (some again) (rw (theirs, not-full, lt-ltb (r .number) (s .count) m)))
+            let x = again (toldAgain s (r .number)) in
+            stays (xs ++ (r ∷ [])) d x (answered (some x) (rw (theirs, not-full, lt-ltb (r .number) (s .count) m)))
             (not-next (λ e. omega arith))
 
         early : s .count < r .number → Holds (xs ++ (r ∷ [])) (d .next) (d .left)
@@ -172,14 +182,19 @@ module _ (n own : ℕ) (b₀ : Buffers) (rs : List Record) (g : Given n own b₀
             ap (λ (m : ℕ). outcomeOf [] b (callOf m (r .gate) b)) (h .n-is) ∙ acts b (h .fits) r in
             let goes : standing s r ≡ none =
             rw (theirs, not-full, le-ltb (r .number) (s .count) (omega arith), le-ltb (s .count) (r .number) (omega arith)) in
-            let made : d ≡ record { next = raised s bytes; says = said (act n (r .gate) b .says); left = act n (r .gate) b .left } =
-            answered none goes ∙ ap (counted s b bytes) does ∙ rw took in
+            let value : callOf (s .n) (r .gate) b .answer ≡ callOf n (r .gate) b .answer = ap (λ (m : ℕ). callOf m (r .gate) b .answer) (h .n-is) in
+            let made : d ≡ record {
+              next = raised s bytes (callOf n (r .gate) b .answer);
+              says = said (act n (r .gate) b .says);
+              left = act n (r .gate) b .left;
+            } = answered none goes ∙ ap₂ (λ (v : Option ℕ) (o : Outcome). counted s b bytes v o) value does ∙ rw took in
             rw made
             (record {
               n-is = h .n-is;
               own-is = h .own-is;
               longest = longest-next r (h .longest) (omega (arith, p .within)) start;
               state = rw (add-one, start) (give-one-more n (take k rs) r b₀ b (h .state) took);
+              value = rw (add-one, start) (sym (last-one-more n (take k rs) r b₀ b none (h .state)));
               fits = act-fits n b (h .fits) (r .gate);
             })
 
@@ -240,7 +255,7 @@ module _ (n own : ℕ) (b₀ : Buffers) (rs : List Record) (g : Given n own b₀
   begins : Holds [] (g .session) b₀
   begins =
       subst (λ (s : Session). Holds [] s b₀) (sym (started (badSize mostQubits n) (g .fresh) .1))
-      (record { n-is = refl; own-is = refl; longest = longest-none rs; state = refl; fits = g .fits })
+      (record { n-is = refl; own-is = refl; longest = longest-none rs; state = refl; value = refl; fits = g .fits })
 
 seen-append : (ds : List (List ℕ)) (bytes : List ℕ) → seen ds ++ cons (readRecord bytes) [] ≡ seen (ds ++ (bytes ∷ []))
 seen-append [] bytes = refl
@@ -259,29 +274,36 @@ exactly-once n own b rs g ds bytes all one =
     let bench = deliverAll (record { session = g .session; state = b }) ds in
     let before = steps n own b rs g ds [] (g .session) b all (begins n own b rs g) in
     let h = step n own b rs g (seen ds) (bench .session) (bench .state) bytes one before in
-    rw (← seen-append) (record { longest = h .longest; state = h .state })
+    rw (← seen-append) (record { longest = h .longest; state = h .state; value = h .value })
 
--- ---- a delivery keeps n and the session's number
+-- ---- a delivery keeps n and the session's number, and all of the session where the count stays
 
-abbrev pub Own : Session → Delivery → Type 0
-Own s d = (d .next .n ≡ s .n) × (d .next .number ≡ s .number)
+pub record Own (s : Session) (d : Delivery) : Type 0 where
+  pub n : d .next .n ≡ s .n
+  pub number : d .next .number ≡ s .number
+  pub unmoved : d .next .count ≡ s .count → d .next ≡ s
 
 module _ (s : Session) (b : Buffers) (bytes : List ℕ) where
+  kept-own : (x : Replied) → Own s (kept s b x)
+  kept-own x = record { n = refl; number = refl; unmoved = λ e. refl }
+
   counted-own : (t : Bool) (x y : Delivery) → Own s x → Own s y → Own s (cond t x y)
   counted-own true x y p q = p
   counted-own false x y p q = q
 
   record-own : (r : Record) (x : Option Replied) → Own s (takeRecord s b bytes r x)
-  record-own r (some x) = (refl, refl)
-  record-own r none = let o = outcomeOf [] b (callOf (s .n) (r .gate) b) in counted-own (accepts (o .says)) _ _ (refl, refl) (refl, refl)
+  record-own r (some x) = kept-own x
+  record-own r none =
+      let o = outcomeOf [] b (callOf (s .n) (r .gate) b) in
+      counted-own (accepts (o .says)) _ _ (record { n = refl; number = refl; unmoved = λ e. absurd (omega arith) }) (kept-own (said (o .says)))
 
   read-own : (x : Option Record) → Own s (takeRead s b bytes x)
   read-own (some r) = record-own r (standing s r)
-  read-own none = (refl, refl)
+  read-own none = kept-own (said (refused 8))
 
   sized-own : (k : ℕ) → Own s (takeSized s b bytes k)
   sized-own zero = read-own (readRecord bytes)
-  sized-own (suc k) = (refl, refl)
+  sized-own (suc k) = kept-own (said (refused (suc k)))
 
 pub keeps-its-own : (s : Session) (b : Buffers) (bytes : List ℕ) → Own s (deliver s b bytes)
 unfolding deliver

@@ -45,5 +45,6 @@ unfolding twelve fused root first sizeTests seatTests swapped measured probabili
 all-twelve = right-hold twelve tt
 
 pub all-since : Hold since
-unfolding since root first sizeTests measured probability summed tabulate held chosen choice placed onPairs le lt eq div add sub mul
+unfolding since root first sizeTests seatTests measured probability summed listed deliver tabulate held chosen choice placed onPairs
+    le lt eq div add sub mul ones
 all-since = right-hold since tt

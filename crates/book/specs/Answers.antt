@@ -9,6 +9,8 @@ use Rattle.book.specs.declared.Refusal.{Refusal}
 use Rattle.book.specs.declared.Refusal.the-variants.{Size, Length, Qubit, Same, Form, Number, Chance, Record, Session, Early, Full, Room}
 use Rattle.book.specs.declared.Answer.{Answer}
 use Rattle.book.specs.declared.Answer.the-variants.{Taken, Value, Refused}
+use Rattle.book.specs.declared.ValueOrNone.{ValueOrNone}
+use Rattle.book.specs.declared.ValueOrNone.the-variants.{None, Value as ValueIs}
 use Rattle.book.specs.declared.Reply.{Reply}
 use Rattle.book.specs.declared.Reply.the-variants.{Again, Said as Says}
 
@@ -38,13 +40,17 @@ says Taken = taken
 says (Value v) = value v
 says (Refused r) = refused (numberOf r)
 
--- what a delivery says: AGAIN, or what a call says
+abbrev pub valueOrNone : ValueOrNone → Option ℕ
+valueOrNone None = none
+valueOrNone (ValueIs v) = some v
+
+-- what a delivery says: AGAIN, with the value that it tells or none, or what a call says
 pub data Replied : Type 0 where
-  again : Replied
+  again : Option ℕ → Replied
   said : Said → Replied
 
 abbrev pub replies : Reply → Replied
-replies Again = again
+replies (Again v) = again (valueOrNone v)
 replies (Says x) = said (says x)
 
 -- what a call gives that has a result to hand over: it, or a refusal's number

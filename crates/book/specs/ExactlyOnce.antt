@@ -8,7 +8,7 @@ use mathlib.Core.Option.{Option, some, none}
 use mathlib.Core.Path.{_≡_}
 use lib.ListN.{length, take}
 use Rattle.book.specs.Answers.{Buffers, accepts}
-use Rattle.book.specs.Calls.{act}
+use Rattle.book.specs.Calls.{callOf, act}
 use Rattle.book.specs.Kernels.{badLength}
 use Rattle.book.specs.Records.{readRecord}
 use Rattle.book.specs.Sessions.{Session, start, deliver, deliverAll}
@@ -46,6 +46,11 @@ give n b (r ∷ rs) =
     let o = act n (r .gate) b in
     cond (accepts (o .says)) (give n (o .left) rs) none
 
+-- the value of the last of them, and `v` where there are none
+abbrev pub lastValue : ℕ → Buffers → Option ℕ → List Record → Option ℕ
+lastValue n b v [] = v
+lastValue n b v (r ∷ rs) = lastValue n (act n (r .gate) b .left) (callOf n (r .gate) b .answer) rs
+
 -- ---- the deliveries
 
 -- unreadable bytes, one of the records, or a record of another session
@@ -78,10 +83,11 @@ pub record Given (n own : ℕ) (b : Buffers) (rs : List Record) : Type 0 where
   pub accepted : give n b rs ≡ some last
 
 -- After a delivery: the session's count k is the length of the longest start of the list found in order among the records delivered so far,
--- and the buffers are what the first k records give, once each.
+-- the buffers are what the first k records give, once each, and the value that is kept is that of the last of these, none at k = 0.
 pub record Once (n : ℕ) (b : Buffers) (rs so-far : List Record) (s : Session) (left : Buffers) : Type 0 where
   pub longest : Longest (s .count) rs so-far
   pub state : give n b (take (s .count) rs) ≡ some left
+  pub value : s .value ≡ lastValue n b none (take (s .count) rs)
 
 -- Whatever was delivered before, `ds`, and whatever comes now, `bytes`.
 abbrev pub ExactlyOnce : Type 0

@@ -3,19 +3,20 @@
 -- An f64 is shown by its bits.
 use Prim.Native.Nat.{ℕ}
 use mathlib.Core.List.{List, [], _∷_, _++_, map}
+use mathlib.Core.Option.{some, none}
 use mathlib.Core.Path.{_≡_}
 use lib.Ieee.{Float, binary64, ofInt, ofBits, toBits, neg}
 use lib.IntN.{pos}
 use lib.ListN.{take}
 use Rattle.numbers.specs.Fused.{root}
-use Rattle.book.specs.Answers.{Said, taken, value, refused, Buffers, buffers, Outcome}
+use Rattle.book.specs.Answers.{Said, taken, value, refused, Replied, again, said, Buffers, buffers, Outcome}
 use Rattle.book.specs.Calls.{act}
 use Rattle.book.specs.Gates.{F}
 use Rattle.book.specs.Records.{writeRecord}
 use Rattle.book.specs.Sessions.{Session, fresh, deliver}
 use Rattle.book.specs.State.{controlled, uncontrolled}
-use Rattle.book.specs.declared.Gate.the-variants.{H, X, Y, Swap, Measure}
-use Rattle.book.specs.declared.Record.{Record}
+use Rattle.book.specs.declared.Gate.{Gate}
+use Rattle.book.specs.declared.Gate.the-variants.{H, X, Y, Swap, Measure, BitFlip}
 
 -- ---- how an example is written
 
@@ -54,9 +55,12 @@ reals o = bits (o .left .reals)
 abbrev pub imags : Outcome → List ℕ
 imags o = bits (o .left .imags)
 
--- X on qubit 0 of session 7, numbered k
-abbrev pub xNumbered : ℕ → Record
-xNumbered k = record { session = 7; number = k; gate = X 0 uncontrolled }
+-- a gate of session 7, numbered k
+abbrev pub numbered : ℕ → Gate → List ℕ
+numbered k g = writeRecord (record { session = 7; number = k; gate = g })
+
+abbrev pub xNumbered : ℕ → List ℕ
+xNumbered k = numbered k (X 0 uncontrolled)
 
 -- the counts that the answers carry, one delivery after the other
 abbrev pub counts : Session → Buffers → List (List ℕ) → List ℕ
@@ -64,6 +68,18 @@ counts s b [] = []
 counts s b (bytes ∷ more) =
     let d = deliver s b bytes in
     d .next .count ∷ counts (d .next) (d .left) more
+
+-- the values that AGAIN tells, one delivery after the other
+abbrev pub toldBy : Replied → List ℕ
+toldBy (again (some v)) = v ∷ []
+toldBy (again none) = []
+toldBy (said x) = []
+
+abbrev pub toldValues : Session → Buffers → List (List ℕ) → List ℕ
+toldValues s b [] = []
+toldValues s b (bytes ∷ more) =
+    let d = deliver s b bytes in
+    toldBy (d .says) ++ toldValues (d .next) (d .left) more
 
 -- a refusal's number
 abbrev pub refusal : Said → List ℕ
@@ -93,6 +109,13 @@ forced outcome = act 1 (Measure 0 (record { outcome = outcome; reset = 0 }))
 abbrev pub yOnOne : Outcome
 yOnOne = act 1 (Y 0 uncontrolled) (buffers (whole 1 ∷ whole 3 ∷ []) (whole 2 ∷ whole 4 ∷ []))
 
+-- measuring 1, and a flip that does not run
+abbrev pub measuring : ℕ → List ℕ
+measuring k = numbered k (Measure 0 (record { outcome = 1; reset = 0 }))
+
+abbrev pub notFlipping : ℕ → List ℕ
+notFlipping k = numbered k (BitFlip 0 (record { prob = half; draw = whole 1 }))
+
 -- ---- the twelve
 
 unfoldable pub twelve : List Example
@@ -111,15 +134,21 @@ twelve =
     ∷ writeRecord (record { session = 7; number = 0; gate = X 1 (controlled 4) })
     is (0x01 ∷ 0x00 ∷ 0x04 ∷ 0x00 ∷ 0x00 ∷ 0x00 ∷ 0x07 ∷ 0x02 ∷ 0x00 ∷ 0x02 ∷ 0x00 ∷ 0x00 ∷ 0x03 ∷ 0x00 ∷ 0x01 ∷ 0x02
     ∷ 0x04 ∷ 0x00 ∷ 0x01 ∷ 0x01 ∷ 0x05 ∷ 0x00 ∷ 0x04 ∷ 0x00 ∷ 0x00 ∷ 0x00 ∷ 0x04 ∷ [])
-    ∷ counts (fresh 1 7) (real (1 ∷ 0 ∷ [])) (map (λ k. writeRecord (xNumbered k)) (0 ∷ 0 ∷ 2 ∷ 1 ∷ [])) is (1 ∷ 1 ∷ 1 ∷ 2 ∷ [])
+    ∷ counts (fresh 1 7) (real (1 ∷ 0 ∷ [])) (map xNumbered (0 ∷ 0 ∷ 2 ∷ 1 ∷ [])) is (1 ∷ 1 ∷ 1 ∷ 2 ∷ [])
     ∷ []
 
 -- ---- of document 02
 
--- request 03: 1, 2 is off length 1, and outcome 1 is scaled by its own half; a half of zeros is refused with 7
+-- Request 03: 1, 2 is off length 1, and outcome 1 is scaled by its own half; a half of zeros is refused with 7.
+-- Request 04: a measurement that comes again tells its outcome, and behind an X no more; a flip that did not run tells 0.
 unfoldable pub since : List Example
 unfolding ofInt ofBits toBits
-since = reals (forced 1 (real (1 ∷ 2 ∷ []))) is bits (map whole (0 ∷ 1 ∷ [])) ∷ refusal (forced 1 halfOfZeros .says) is (7 ∷ []) ∷ []
+since =
+    reals (forced 1 (real (1 ∷ 2 ∷ []))) is bits (map whole (0 ∷ 1 ∷ []))
+    ∷ refusal (forced 1 halfOfZeros .says) is (7 ∷ [])
+    ∷ toldValues (fresh 1 7) (real (0 ∷ 1 ∷ []))
+    (measuring 0 ∷ measuring 0 ∷ xNumbered 1 ∷ measuring 0 ∷ xNumbered 1 ∷ notFlipping 2 ∷ notFlipping 2 ∷ []) is (1 ∷ 0 ∷ [])
+    ∷ []
 
 -- each example of a list holds
 abbrev pub Hold : List Example → Type 0

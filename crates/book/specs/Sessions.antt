@@ -10,22 +10,23 @@ use Rattle.book.specs.Kernels.{badSize, mostQubits, sizeTests}
 use Rattle.book.specs.Records.{readRecord}
 use Rattle.book.specs.declared.Record.{Record}
 
--- a session is n, its number and the count of records taken
+-- a session is n, its number, the count of records taken, and the value of the last of them, none where its gate has none
 pub record Session : Type 0 where
   pub n : ℕ
   pub number : ℕ
   pub count : ℕ
+  pub value : Option ℕ
 
--- it starts at 0; a bad n is refusal 1, and gives no session
+-- it starts at 0, with none; a bad n is refusal 1, and gives no session
 abbrev pub fresh : ℕ → ℕ → Session
-fresh n own = record { n = n; number = own; count = 0 }
+fresh n own = record { n = n; number = own; count = 0; value = none }
 
 abbrev pub start : ℕ → ℕ → Option Session
 start n own = cond (badSize mostQubits n) none (some (fresh n own))
 
--- a record was taken, of these bytes
-abbrev pub raised : Session → List ℕ → Session
-raised s bytes = record { n = s .n; number = s .number; count = s .count + 1 }
+-- a record was taken, of these bytes and with this value
+abbrev pub raised : Session → List ℕ → Option ℕ → Session
+raised s bytes v = record { n = s .n; number = s .number; count = s .count + 1; value = v }
 
 -- ---- a delivery: the next session, what is said, and what the buffers hold
 
@@ -38,25 +39,29 @@ pub record Delivery : Type 0 where
 abbrev pub kept : Session → Buffers → Replied → Delivery
 kept s b x = record { next = s; says = x; left = b }
 
--- a gate that was taken raises the count
-abbrev pub counted : Session → Buffers → List ℕ → Outcome → Delivery
-counted s b bytes o =
+-- a gate that was taken raises the count, and the value that it answers is kept
+abbrev pub counted : Session → Buffers → List ℕ → Option ℕ → Outcome → Delivery
+counted s b bytes v o =
     cond (accepts (o .says))
-    (record { next = raised s bytes; says = said (o .says); left = o .left })
+    (record { next = raised s bytes v; says = said (o .says); left = o .left })
     (kept s b (said (o .says)))
+
+-- AGAIN for number count-1, the last record taken, tells the value that is kept; for an older number none
+abbrev pub toldAgain : Session → ℕ → Option ℕ
+toldAgain s number = cond (eqb (number + 1) (s .count)) (s .value) none
 
 -- 9, 11; then a number below the count answers AGAIN, one above it 10, and only an equal one goes on
 abbrev pub standing : Session → Record → Option Replied
 standing s r =
     cond (not (eqb (r .session) (s .number))) (some (said (refused 9)))
     (cond (eqb (r .number) 65535) (some (said (refused 11)))
-    (cond (ltb (r .number) (s .count)) (some again)
+    (cond (ltb (r .number) (s .count)) (some (again (toldAgain s (r .number))))
     (cond (ltb (s .count) (r .number)) (some (said (refused 10))) none)))
 
 -- to the gate's own tests, 3 to 7
 abbrev pub takeRecord : Session → Buffers → List ℕ → Record → Option Replied → Delivery
 takeRecord s b bytes r (some x) = kept s b x
-takeRecord s b bytes r none = counted s b bytes (outcomeOf [] b (callOf (s .n) (r .gate) b))
+takeRecord s b bytes r none = let c = callOf (s .n) (r .gate) b in counted s b bytes (c .answer) (outcomeOf [] b c)
 
 -- 8
 abbrev pub takeRead : Session → Buffers → List ℕ → Option Record → Delivery

@@ -135,9 +135,15 @@ pub enum Answer {
     Refused(Refusal),
 }
 
-// What a delivery answers: AGAIN, or what a call answers.
+// A value of a flip or a measurement, or none.
+pub enum ValueOrNone {
+    None,
+    Value(u8),
+}
+
+// What a delivery answers: AGAIN, which tells a value or none, or what a call answers.
 pub enum Reply {
-    Again,
+    Again(ValueOrNone),
     Said(Answer),
 }
 

@@ -1,2 +1,2 @@
--- What an answer makes of the count.
+-- What an answer makes of the count and of the value that is kept.
 pub mod Counts

@@ -1,14 +1,19 @@
 -- Where a record stands, test by test: each test that applies, with those before it passed, gives the reply. Assumes nothing.
 use Prim.Native.Nat.{ℕ, _+_, _≤_, _<_}
-use mathlib.Core.Path.{_≡_, refl, sym, _∙_}
+use mathlib.Core.Bool.{cond}
+use mathlib.Core.Option.{Option, some, none}
+use mathlib.Core.Path.{_≡_, refl, sym, ap, ap₂, _∙_}
+use lib.Dec.{eqb}
 use native.Mathlib.Omega.{arith}
 use borrow.Author.Tests.{lt-ltb, le-ltb, eq-eqb, ne-eqb}
-use Rattle.book.specs.Sessions.{Session}
+use Rattle.book.specs.Answers.{valueOrNone, again}
+use Rattle.book.specs.Sessions.{Session, toldAgain}
 use Rattle.book.specs.declared.Answer.the-variants.{Refused}
 use Rattle.book.specs.declared.Record.{Record}
 use Rattle.book.specs.declared.Refusal.the-variants.{Session as NoSession, Early, Full}
 use Rattle.book.specs.declared.Reply.{Reply}
 use Rattle.book.specs.declared.Reply.the-variants.{Again, Said}
+use Rattle.book.specs.declared.ValueOrNone.{ValueOrNone}
 use Rattle.standing.specs.Stands.{Stood}
 use Rattle.standing.specs.declared.Standing.the-variants.{Next, Answered}
 
@@ -16,54 +21,58 @@ use Rattle.standing.specs.declared.Standing.the-variants.{Next, Answered
 no-next : {x : Reply} {k m : ℕ} → Answered x ≡ Next k → k ≡ m
 no-next e = let z : _≡_ {A = ℕ} 0 1 = cc in absurd (omega arith)
 
-module _ (own count : ℕ) (r : Record) where
-  pub other : (r .session ≡ own → ⊥) → Stood own count r (Answered (Said (Refused NoSession)))
-  other h = record { is = λ s e f. rw (ne-eqb (r .session) (s .number) (λ q. h (q ∙ e))); next = λ k e. no-next e }
+module _ (own count : ℕ) (v : ValueOrNone) (r : Record) where
+  pub other : (r .session ≡ own → ⊥) → Stood own count v r (Answered (Said (Refused NoSession)))
+  other h = record { is = λ s e f k. rw (ne-eqb (r .session) (s .number) (λ q. h (q ∙ e))); next = λ j e. no-next e }
 
   module _ (mine : r .session ≡ own) where
     theirs : (s : Session) → s .number ≡ own → r .session ≡ s .number
     theirs s e = mine ∙ sym e
 
-    pub full : r .number ≡ 65535 → Stood own count r (Answered (Said (Refused Full)))
+    pub full : r .number ≡ 65535 → Stood own count v r (Answered (Said (Refused Full)))
     full h =
         record {
-          is = λ s e f. rw (eq-eqb (r .session) (s .number) (theirs s e), eq-eqb (r .number) 65535 h);
-          next = λ k e. no-next e;
+          is = λ s e f k. rw (eq-eqb (r .session) (s .number) (theirs s e), eq-eqb (r .number) 65535 h);
+          next = λ j e. no-next e;
         }
 
     module _ (room : r .number ≡ 65535 → ⊥) where
-      pub repeated : r .number < count → Stood own count r (Answered Again)
-      repeated h =
+      pub repeated : {t : ValueOrNone} → r .number < count → valueOrNone t ≡ cond (eqb (r .number + 1) count) (valueOrNone v) none
+          → Stood own count v r (Answered (Again t))
+      repeated {t} h told =
           record {
-            is = λ s e f.
-                rw (eq-eqb (r .session) (s .number) (theirs s e), ne-eqb (r .number) 65535 room, lt-ltb (r .number) (s .count) (omega (arith, f)));
-            next = λ k e. no-next e;
+            is = λ s e f k.
+                let tells : valueOrNone t ≡ toldAgain s (r .number) =
+                told ∙ ap₂ (λ (m : ℕ) (w : Option ℕ). cond (eqb (r .number + 1) m) w none) (sym f) (sym k) in
+                rw (eq-eqb (r .session) (s .number) (theirs s e), ne-eqb (r .number) 65535 room, lt-ltb (r .number) (s .count) (omega (arith, f)))
+                (ap (λ (w : Option ℕ). some (again w)) tells);
+            next = λ j e. no-next e;
           }
 
-      pub early : count < r .number → Stood own count r (Answered (Said (Refused Early)))
+      pub early : count < r .number → Stood own count v r (Answered (Said (Refused Early)))
       early h =
           record {
-            is = λ s e f.
+            is = λ s e f k.
                 rw (
                   eq-eqb (r .session) (s .number) (theirs s e),
                   ne-eqb (r .number) 65535 room,
                   le-ltb (r .number) (s .count) (omega (arith, f)),
                   lt-ltb (s .count) (r .number) (omega (arith, f)),
                 );
-            next = λ k e. no-next e;
+            next = λ j e. no-next e;
           }
 
-      pub next : count ≤ r .number → r .number ≤ count → Stood own count r (Next (count + 1))
+      pub next : count ≤ r .number → r .number ≤ count → Stood own count v r (Next (count + 1))
       next l h =
           record {
-            is = λ s e f.
+            is = λ s e f k.
                 rw (
                   eq-eqb (r .session) (s .number) (theirs s e),
                   ne-eqb (r .number) 65535 room,
                   le-ltb (r .number) (s .count) (omega (arith, f)),
                   le-ltb (s .count) (r .number) (omega (arith, f)),
                 );
-            next = λ k e. let same : count + 1 ≡ k = cc in sym same;
+            next = λ j e. let same : count + 1 ≡ j = cc in sym same;
           }
 
 -- each asks for the tests that it takes, wherever they stand

@@ -3,6 +3,13 @@ use book::Answer;
 use book::Record;
 use book::Refusal;
 use book::Reply;
+use book::ValueOrNone;
+ghost use mathlib.Core.Bool.{cond};
+ghost use mathlib.Core.Option.{none};
+ghost use mathlib.Core.Path.{_≡_};
+ghost use Prim.Native.Nat.{_+_};
+ghost use lib.Dec.{eqb};
+ghost use Rattle.book.specs.Answers.{valueOrNone};
 ghost use Rattle.standing.specs.Stands.{Stood};
 
 // A record that is next goes on to its gate, with the count that a taken gate makes; any other has its reply.
@@ -14,9 +21,19 @@ pub enum Standing {
 // Record numbers are 0 to 65,534.
 const FULL: u16 = 65535;
 
-// In a session of this number and count.
-pub fn stand(own: u32, count: u16, it: Record) -> Standing
-    ensures { λ r. ⌜ Stood own count it r ⌝ }
+// A repeat of the last record taken tells the value that is kept, one of an older record none.
+fn told_again(count: u16, value: ValueOrNone, at: u16) -> ValueOrNone
+    ensures { λ r. ⌜ valueOrNone r ≡ cond (eqb (at + 1) count) (valueOrNone value) none ⌝ }
+{
+    if at as u32 + 1 == count as u32 {
+        return value;
+    }
+    ValueOrNone::None
+}
+
+// In a session of this number and count, which keeps this value.
+pub fn stand(own: u32, count: u16, value: ValueOrNone, it: Record) -> Standing
+    ensures { λ r. ⌜ Stood own count value it r ⌝ }
 {
     let at = it.number;
     if it.session != own {
@@ -26,7 +43,7 @@ pub fn stand(own: u32, count: u16, it: Record) -> Standing
         return Standing::Answered(Reply::Said(Answer::Refused(Refusal::Full)));
     }
     if at < count {
-        return Standing::Answered(Reply::Again);
+        return Standing::Answered(Reply::Again(told_again(count, value, at)));
     }
     if count < at {
         return Standing::Answered(Reply::Said(Answer::Refused(Refusal::Early)));

@@ -10,6 +10,7 @@ stand-spec =
     (tie.spec
     (λ c. search standings)
     (λ c. search standings)
+    (λ c κs. search needs)
     (λ c. search standings)
     (λ c. search standings)
     (λ c. search needs)
