@@ -35,7 +35,7 @@ module _ {n own : ℕ} {b : Buffers} {rs : List Record} (g : Given n own b rs) w
 
   -- before any delivery
   before-any : After [] (bench (fresh n own) b)
-  before-any = record { longest = longest-none rs; state = refl }
+  before-any = record { longest = longest-none rs; state = refl; value = refl }
 
   after-last : (ds : List (List ℕ)) (bytes : List ℕ) → AllOf own rs (ds ++ (bytes ∷ []))
       → After (ds ++ (bytes ∷ [])) (deliverAll (bench (fresh n own) b) (ds ++ (bytes ∷ [])))

@@ -3,12 +3,13 @@ use Prim.Native.Nat.{ℕ, zero, suc, _+_, _*_, _/_, _%_, _^_, _≤_}
 use native.Mathlib.Omega.{arith}
 use mathlib.Core.Bool.{Bool, true, false, cond}
 use mathlib.Core.List.{List, [], _∷_, _++_}
+use mathlib.Core.Option.{Option, some, none}
 use lib.Dec.{ltb}
 use lib.Ieee.{Float, binary64, toBits}
 use lib.ListN.{length, length-append}
 use Rattle.book.specs.Answers.{Buffers, taken, value, refused, Replied, again, said}
 use Rattle.book.specs.Sessions.{Session}
-use Rattle.delivery_lines.specs.Deliveries.{saying, adding, deliveryLine}
+use Rattle.delivery_lines.specs.Deliveries.{saying, valueTold, adding, deliveryLine}
 use Rattle.io.specs.Digits.{digits, glyph}
 use Rattle.once.specs.Answered.{Answered}
 use Rattle.stream.specs.Lines.{amplitudeLine, endLine, cutLine}
@@ -46,19 +47,17 @@ bits-short x = digits-short 16 16 (toBits binary64 x)
 -- ---- lines
 
 saying-short : (r : Replied) → length (saying r) ≤ 29
-saying-short again = omega arith
+saying-short (again v) = omega arith
 saying-short (said taken) = omega arith
 saying-short (said (value v)) = omega arith
 saying-short (said (refused k)) = omega (arith, decimal-short k)
 
-adding-short : (r : Replied) → length (adding r) ≤ 27
-adding-short again = omega arith
-adding-short (said taken) = omega arith
-adding-short (said (value v)) = omega (arith, decimal-short v)
-adding-short (said (refused k)) = omega arith
+adding-short : (v : Option ℕ) → length (adding v) ≤ 27
+adding-short none = omega arith
+adding-short (some v) = omega (arith, decimal-short v)
 
 delivery-short : (i : ℕ) (r : Replied) (count : ℕ) → length (deliveryLine i r count) ≤ 128
-delivery-short i r count = simp length-append (omega (arith, decimal-short i, saying-short r, decimal-short count, adding-short r))
+delivery-short i r count = simp length-append (omega (arith, decimal-short i, saying-short r, decimal-short count, adding-short (valueTold r)))
 
 amplitude-short : (i : ℕ) (re im : Float) → length (amplitudeLine i re im) ≤ 128
 amplitude-short i re im = simp length-append (omega (arith, decimal-short i, bits-short re, bits-short im))

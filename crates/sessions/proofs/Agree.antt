@@ -3,33 +3,47 @@
 use Prim.Native.Nat.{ℕ}
 use mathlib.Core.Path.{_≡_, refl, sym, ap, ap₂, _∙_}
 use Rattle.book.proofs.Agree.{agree, refusalOf, refusal-back, answerOf, answer-back}
-use Rattle.book.specs.Answers.{Replied, again, said, replies, Gives, gives, denied, Buffers}
+use mathlib.Core.Option.{Option, some, none}
+use Rattle.book.specs.Answers.{valueOrNone, Replied, again, said, replies, Gives, gives, denied, Buffers}
 use Rattle.book.specs.Sessions as Book
 use Rattle.book.specs.declared.Reply.{Reply}
 use Rattle.book.specs.declared.Reply.the-variants.{Again, Said}
-use Rattle.sessions.specs.Deliveries.{resumed, startedSays, Delivers}
+use Rattle.book.specs.declared.ValueOrNone.{ValueOrNone}
+use Rattle.book.specs.declared.ValueOrNone.the-variants.{None, Value}
+use Rattle.sessions.specs.Deliveries.{meant, resumed, startedSays, Delivers}
 use Rattle.sessions.specs.declared.Delivered.{Delivered}
 use Rattle.sessions.specs.declared.Session.{Session}
 use Rattle.sessions.specs.declared.Started.{Started}
 use Rattle.sessions.specs.declared.Started.the-variants.{Fresh, Refused as Unstarted}
 
+abbrev valueOf : Option ℕ → ValueOrNone
+valueOf none = None
+valueOf (some v) = Value v
+
+value-back : (x : ValueOrNone) → valueOf (valueOrNone x) ≡ x
+value-back None = refl
+value-back (Value v) = refl
+
 abbrev replyOf : Replied → Reply
-replyOf again = Again
+replyOf (again v) = Again (valueOf v)
 replyOf (said x) = Said (answerOf x)
 
 reply-back : (x : Reply) → replyOf (replies x) ≡ x
-reply-back Again = refl
+reply-back (Again v) = ap Again (value-back v)
 reply-back (Said a) = ap Said (answer-back a)
 
 abbrev sessionOf : Book.Session → Session
-sessionOf s = resumed (s .n) (s .number) (s .count)
+sessionOf s = resumed (s .n) (s .number) (s .count) (valueOf (s .value))
+
+session-back : (s : Session) → sessionOf (meant s) ≡ s
+session-back s = ap (resumed (s .n) (s .number) (s .count)) (value-back (s .value))
 
 abbrev startedBy : Gives Book.Session → Started
 startedBy (gives s) = Fresh (sessionOf s)
 startedBy (denied k) = Unstarted (refusalOf k)
 
 started-back : (x : Started) → startedBy (startedSays x) ≡ x
-started-back (Fresh s) = refl
+started-back (Fresh s) = ap Fresh (session-back s)
 started-back (Unstarted x) = ap Unstarted (refusal-back x)
 
 -- a start
@@ -47,7 +61,7 @@ delivers-agree {a = a} {a′ = a′} x y = (
     made s r k = record { next = s; reply = r; count = k }
 
     next : a .next ≡ a′ .next
-    next = ap sessionOf (x .next ∙ sym (y .next))
+    next = agree meant sessionOf session-back (x .next) (y .next)
 
     reply : a .reply ≡ a′ .reply
     reply = agree replies replyOf reply-back (x .reply) (y .reply)

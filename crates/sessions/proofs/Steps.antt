@@ -2,13 +2,13 @@
 -- them, so the next record's gate decides by itself. Assumes nothing.
 use Prim.Native.Nat.{ℕ, zero, suc, _+_}
 use mathlib.Core.Bool.{Bool, true, false, cond}
-use mathlib.Core.List.{List}
-use mathlib.Core.Option.{some, none}
+use mathlib.Core.List.{List, _++_}
+use mathlib.Core.Option.{Option, some, none}
 use mathlib.Core.Path.{_≡_, refl, sym, ap, ap₂, _∙_}
 use native.Mathlib.Omega.{arith}
 use Rattle.book.proofs.Calls.{refused-keeps, sized-right, sized-wrong}
 use Rattle.book.proofs.Refusals.{sizes-numbered}
-use Rattle.book.specs.Answers.{Said, refused, Replied, said, replies, first, Buffers, Outcome, accepts, Does}
+use Rattle.book.specs.Answers.{Said, refused, valueOrNone, Replied, said, replies, first, Buffers, Outcome, Call, accepted, unless, accepts, Does}
 use Rattle.book.specs.Calls.{callOf, act}
 use Rattle.book.specs.Kernels.{sizeTests}
 use Rattle.book.specs.Records.{readRecord}
@@ -19,9 +19,9 @@ use Rattle.book.specs.declared.Record.{Record}
 use Rattle.book.specs.declared.Refusal.{Refusal}
 use Rattle.book.specs.declared.Reply.{Reply}
 use Rattle.seated.specs.Judging.{verdict, Judges}
-use Rattle.counting.specs.Counts.{Counts, behind, Passes}
+use Rattle.counting.specs.Counts.{keptBy, Counts, behind, Passes}
 use Rattle.counting.specs.declared.Counted.{Counted}
-use Rattle.sessions.specs.Deliveries.{meant, resumed, told, unsized, Delivers}
+use Rattle.sessions.specs.Deliveries.{meant, told, unsized, Delivers}
 use Rattle.sessions.specs.declared.Delivered.{Delivered}
 use Rattle.sessions.specs.declared.Session.{Session}
 
@@ -45,15 +45,18 @@ module _ (s : Book.Session) (b : Buffers) (bytes : List ℕ) where
     answered x f = stays x (ap (takeRead s b bytes) e ∙ ap (takeRecord s b bytes r) (sym f))
 
     -- the next record: its gate decides, 1 and 2 too
-    pub goes : none ≡ standing s r → deliver s b bytes ≡ counted s b bytes (act (s .n) (r .gate) b)
+    pub goes : none ≡ standing s r → deliver s b bytes ≡ counted s b bytes (callOf (s .n) (r .gate) b .answer) (act (s .n) (r .gate) b)
     unfolding deliver
     goes f = by (first (sizeTests (s .n) b)) refl
       where
-        by : (k : ℕ) → first (sizeTests (s .n) b) ≡ k → takeSized s b bytes k ≡ counted s b bytes (act (s .n) (r .gate) b)
+        v : Option ℕ
+        v = callOf (s .n) (r .gate) b .answer
+
+        by : (k : ℕ) → first (sizeTests (s .n) b) ≡ k → takeSized s b bytes k ≡ counted s b bytes v (act (s .n) (r .gate) b)
         by zero z =
             ap (takeRead s b bytes) e ∙ ap (takeRecord s b bytes r) (sym f)
-            ∙ ap (counted s b bytes) (sym (sized-right b (callOf (s .n) (r .gate) b) (sizeTests (s .n) b) (sizes-numbered (s .n) b) z))
-        by (suc k) z = sym (ap (counted s b bytes) (sized-wrong b (callOf (s .n) (r .gate) b) (sizeTests (s .n) b) z))
+            ∙ ap (counted s b bytes v) (sym (sized-right b (callOf (s .n) (r .gate) b) (sizeTests (s .n) b) (sizes-numbered (s .n) b) z))
+        by (suc k) z = sym (ap (counted s b bytes v) (sized-wrong b (callOf (s .n) (r .gate) b) (sizeTests (s .n) b) z))
 
 -- ---- the code's answers
 -- Each part of a contract is found by `search`, here and for `deliver`: a part that asks less is proved too, and is missed by who goes by it.
@@ -61,28 +64,46 @@ module _ (s : Book.Session) (b : Buffers) (bytes : List ℕ) where
 pub by-is : {d d′ : Book.Delivery} {a : Delivered} {b : Buffers} → d′ ≡ d → Delivers d a b → Delivers d′ a b
 by-is e h = rw e h
 
+-- what a gate's answer makes of the value that is kept: a taken one's own takes its place
+kept-by : (k : ℕ) (b : Buffers) (c : Call) (v : Option ℕ) → keptBy (unless k b c .says) v ≡ cond (accepts (unless k b c .says)) (c .answer) v
+kept-by zero b c v = by (c .answer)
+  where
+    by : (x : Option ℕ) → keptBy (accepted x) v ≡ cond (accepts (accepted x)) x v
+    by none = refl
+    by (some w) = refl
+kept-by (suc k) b c v = refl
+
 module _ (s : Session) (b : Buffers) {a : Delivered} {k : Counted} (e : a ≡ told s k) where
-  counts-are : {count : ℕ} → k .count ≡ count → meant (resumed (s .n) (s .number) (k .count)) ≡ Book.session (s .n) (s .number) count
-  counts-are c = ap (Book.session (s .n) (s .number)) c
+  abbrev counting : ℕ → Option ℕ → Book.Session
+  counting count v = record { n = s .n; number = s .number; count = count; value = v }
+
+  next-is : {count : ℕ} {v : Option ℕ} → k .count ≡ count → valueOrNone (k .value) ≡ v → meant (told s k .next) ≡ counting count v
+  next-is c x = ap₂ counting c x
 
   -- the record was not run
-  pub passes : {x : Reply} {size : Answer} → Judges (sizeTests (s .n) b) size → Passes (s .count) size x k → Delivers (unsized (meant s) b (replies x)) a b
+  pub passes : {x : Reply} {size : Answer} → Judges (sizeTests (s .n) b) size → Passes (s .count) (s .value) size x k
+      → Delivers (unsized (meant s) b (replies x)) a b
   passes {x} j p =
       let reply = p .reply ∙ ap (λ (y : Said). behind y (replies x)) (j .is) in
-      rw e (record { next = search (counts-are (p .counts)); reply = search reply; count = search (p .counts); leaves = refl })
+      rw e (record { next = search (next-is (p .counts) (p .value)); reply = search reply; count = search (p .counts); leaves = refl })
 
   -- its gate was run
   pub ran : (bytes : List ℕ) (r : Record) {b′ : Buffers} {answer : Answer} {next : ℕ} → Does (act (s .n) (r .gate) b) answer b′ → next ≡ s .count + 1
-      → Counts (s .count) next answer k → Delivers (counted (meant s) b bytes (act (s .n) (r .gate) b)) a b′
+      → Counts (s .count) (s .value) next answer k
+      → Delivers (counted (meant s) b bytes (callOf (s .n) (r .gate) b .answer) (act (s .n) (r .gate) b)) a b′
   ran bytes r {b′} {answer} {next} d one c =
+      let work = callOf (s .n) (r .gate) b in
       let o = act (s .n) (r .gate) b in
+      let sizes = sizeTests (s .n) b in
       let counts : k .count ≡ cond (accepts (o .says)) (s .count + 1) (s .count) =
       c .counts ∙ ap₂ (λ (x : Said) (j : ℕ). cond (accepts x) j (s .count)) (d .answers) one in
-      rw e (by (accepts (o .says)) o (refused-keeps b (callOf (s .n) (r .gate) b) (sizeTests (s .n) b)) counts (c .reply ∙ ap said (d .answers)) (d .leaves))
+      let value : valueOrNone (k .value) ≡ cond (accepts (o .says)) (work .answer) (valueOrNone (s .value)) =
+      c .value ∙ ap (λ (x : Said). keptBy x (valueOrNone (s .value))) (d .answers) ∙ kept-by (first (sizes ++ work .tests)) b work (valueOrNone (s .value)) in
+      rw e (by (accepts (o .says)) o (work .answer) (refused-keeps b work sizes) counts value (c .reply ∙ ap said (d .answers)) (d .leaves))
     where
-      by : (t : Bool) (o : Outcome) → (t ≡ false → o .left ≡ b) → k .count ≡ cond t (s .count + 1) (s .count) → replies (k .reply) ≡ said (o .says)
-          → b′ ≡ o .left
-          → let taken : Book.Delivery = record { next = raised (meant s) bytes; says = said (o .says); left = o .left } in
+      by : (t : Bool) (o : Outcome) (v : Option ℕ) → (t ≡ false → o .left ≡ b) → k .count ≡ cond t (s .count + 1) (s .count)
+          → valueOrNone (k .value) ≡ cond t v (valueOrNone (s .value)) → replies (k .reply) ≡ said (o .says) → b′ ≡ o .left
+          → let taken : Book.Delivery = record { next = raised (meant s) bytes v; says = said (o .says); left = o .left } in
           Delivers (cond t taken (kept (meant s) b (said (o .says)))) (told s k) b′
-      by true o keeps c x l = record { next = search (counts-are c); reply = search; count = search; leaves = search }
-      by false o keeps c x l = record { next = search (counts-are c); reply = search; count = search; leaves = search (l ∙ keeps refl) }
+      by true o v keeps c x y l = record { next = search (next-is c x); reply = search; count = search; leaves = search }
+      by false o v keeps c x y l = record { next = search (next-is c x); reply = search; count = search; leaves = search (l ∙ keeps refl) }

@@ -1,9 +1,10 @@
 -- What a session and an answer of this crate mean in 01's words, and a delivery's whole contract. Definitions only. Assumes nothing.
 use Prim.Native.Nat.{ℕ}
 use mathlib.Core.Path.{_≡_}
-use Rattle.book.specs.Answers.{numberOf, Replied, replies, Gives, gives, denied, first, Buffers}
+use Rattle.book.specs.Answers.{numberOf, valueOrNone, Replied, replies, Gives, gives, denied, first, Buffers}
 use Rattle.book.specs.Kernels.{sizeTests}
 use Rattle.book.specs.Sessions as Book
+use Rattle.book.specs.declared.ValueOrNone.{ValueOrNone}
 use Rattle.seated.specs.Judging.{verdict}
 use Rattle.counting.specs.Counts.{behind}
 use Rattle.counting.specs.declared.Counted.{Counted}
@@ -13,10 +14,10 @@ use Rattle.sessions.specs.declared.Started.{Started}
 use Rattle.sessions.specs.declared.Started.the-variants.{Fresh, Refused as Unstarted}
 
 abbrev pub meant : Session → Book.Session
-meant s = record { n = s .n; number = s .number; count = s .count }
+meant s = record { n = s .n; number = s .number; count = s .count; value = valueOrNone (s .value) }
 
-abbrev pub resumed : ℕ → ℕ → ℕ → Session
-resumed n own count = record { n = n; number = own; count = count }
+abbrev pub resumed : ℕ → ℕ → ℕ → ValueOrNone → Session
+resumed n own count v = record { n = n; number = own; count = count; value = v }
 
 -- a session as it is started, or a refusal's number
 abbrev pub startedSays : Started → Gives Book.Session
@@ -25,7 +26,7 @@ startedSays (Unstarted x) = denied (numberOf x)
 
 -- the next session, and its answer, which carries the count after it
 abbrev pub told : Session → Counted → Delivered
-told s c = record { next = resumed (s .n) (s .number) (c .count); reply = c .reply; count = c .count }
+told s c = record { next = resumed (s .n) (s .number) (c .count) (c .value); reply = c .reply; count = c .count }
 
 -- a record that is not run: 1 and 2 come before its reply
 abbrev pub unsized : Book.Session → Buffers → Replied → Book.Delivery

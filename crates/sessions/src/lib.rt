@@ -5,6 +5,7 @@ use book::MOST_QUBITS;
 use book::Read;
 use book::Refusal;
 use book::Reply;
+use book::ValueOrNone;
 use counting::Counted;
 use once::next_size;
 use standing::Standing;
@@ -17,11 +18,12 @@ ghost use Rattle.book.specs.Sessions as Book;
 ghost use Rattle.once.specs.AllOnce.{cut, AllOnce};
 ghost use Rattle.sessions.specs.Deliveries.{meant, startedSays, resumed, told, unsized, Delivers};
 
-// n qubits, the session's number, and the count of records taken.
+// n qubits, the session's number, the count of records taken, and the value of the last of them.
 pub struct Session {
     pub n: u32,
     pub number: u32,
     pub count: u16,
+    pub value: ValueOrNone,
 }
 
 // A delivery hands back the next session, its reply, and the count after it.
@@ -39,10 +41,22 @@ pub enum Started {
 
 impl Session {
     // The one place where a session is made: from what a caller kept of it.
-    pub fn resume(n: u32, number: u32, count: u16) -> Session
-        ensures { λ r. ⌜ r ≡ resumed n number count ⌝ }
+    pub fn resume(n: u32, number: u32, count: u16, value: ValueOrNone) -> Session
+        ensures { λ r. ⌜ r ≡ resumed n number count value ⌝ }
     {
-        Session { n, number, count }
+        Session {
+            n,
+            number,
+            count,
+            value,
+        }
+    }
+
+    // As it starts, for any n.
+    pub fn fresh(n: u32, number: u32) -> Session
+        ensures { λ r. ⌜ meant r ≡ Book.fresh n number ⌝ }
+    {
+        Session::resume(n, number, 0, ValueOrNone::None)
     }
 
     pub fn start(n: u32, number: u32) -> Started
@@ -54,7 +68,7 @@ impl Session {
         if MOST_QUBITS < n {
             return Started::Refused(Refusal::Size);
         }
-        Started::Fresh(Session::resume(n, number, 0))
+        Started::Fresh(Session::fresh(n, number))
     }
 
     // The next session, and the answer, which carries the count after it.
@@ -63,7 +77,7 @@ impl Session {
     {
         let count = counted.count;
         let reply = counted.reply;
-        let next = Session::resume(self.n, self.number, count);
+        let next = Session::resume(self.n, self.number, count, counted.value);
         Delivered { next, reply, count }
     }
 
@@ -72,7 +86,7 @@ impl Session {
         ensures { λ r. ⌜ Delivers (unsized (meant self) (before reals imags) (replies reply)) r (before reals imags) ⌝ }
     {
         let size = judging::size(reals, imags, self.n);
-        self.told(counting::passed(self.count, size, reply))
+        self.told(counting::passed(self.count, self.value, size, reply))
     }
 
     // Only the next record goes on to its gate, whose own tests begin with 1 and 2: so a delivery is judged once.
@@ -82,11 +96,11 @@ impl Session {
         let Read::Record(it) = reader::read_record(bytes) else {
             return self.passed(Reply::Said(Answer::Refused(Refusal::Record)), reals, imags);
         };
-        match stand(self.number, self.count, it) {
+        match stand(self.number, self.count, self.value, it) {
             Standing::Next(next) => {
                 let gate = it.gate;
                 let answer = act(self.n, gate, reals, imags);
-                self.told(counting::ran(self.count, next, answer))
+                self.told(counting::ran(self.count, self.value, next, answer))
             }
             Standing::Answered(reply) => self.passed(reply, reals, imags),
         }

@@ -1,4 +1,4 @@
--- `delivery_lines::add_value` adds a value, and nothing to any other answer. Assumes nothing.
+-- `delivery_lines::add_value` adds a value, and nothing where there is none. Assumes nothing.
 use Rattle.words.proofs.Writing.{then, nothing}
 use borrow.Author.Needs.{needs}
 use Rattle.delivery_lines.proofs.add_value.Statement.{statement}
@@ -12,10 +12,7 @@ returns-2 c =
     let numbered = c .before .before in
     let worded = numbered .before .before .before .before in
     let told = worded .before .before .before .before in
-    rw (told .answer .given .1) (then (worded .add .ensures) (numbered .add-number .ensures))
-
-returns-3 : tie.Need-returns-3
-returns-3 c = rw (c .enum-told2 .given .1) (nothing 27 _ _)
+    rw (told .value .given .1) (then (worded .add .ensures) (numbered .add-number .ensures))
 
 pub add-value-spec : {M : Type 1} → statement M
 add-value-spec =
@@ -27,8 +24,6 @@ add-value-spec =
     (λ c κs. search needs)
     (λ c. search needs)
     (λ c κs. search needs)
-    (λ c. search needs)
     returns
     (λ c. search needs)
-    returns-2
-    returns-3)
+    returns-2)

@@ -13,7 +13,8 @@ room c = search needs
 returns : tie.Need-returns
 returns c =
     let value = c .before .before .before in
-    let count = value .before .before in
+    let told = value .before in
+    let count = told .before .before in
     let second-word = count .before .before in
     let reply = second-word .before .before .before in
     let index = reply .before .before in
@@ -24,7 +25,7 @@ returns c =
     (then (reply .add-saying .ensures)
     (then (second-word .add2 .ensures)
     (then (count .add-number2 .ensures)
-    (then (value .add-behind .ensures) (c .add3 .ensures)))))))
+    (then (rw (told .value-told .ensures) at (value .add-value .ensures)) (c .add3 .ensures)))))))
 
 pub delivery-line-spec : {M : Type 1} → statement M
 delivery-line-spec =
@@ -35,6 +36,7 @@ delivery-line-spec =
     (λ c κs. search needs)
     (λ c κs. search needs)
     (λ c. search needs)
+    (λ c κs. search needs)
     (λ c κs. search needs)
     (λ c κs. search needs)
     (λ c κs. search needs)

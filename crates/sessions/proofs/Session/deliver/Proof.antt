@@ -27,7 +27,7 @@ returns-2 c =
     let a = read .before .before .before .before .args in
     let it = known .it .given .0 .0 in
     let found = gives-is 8 (readRecord (a .bytes .now)) (sym (ap readSays (known .it .given .1)) ∙ read .read-record .ensures) in
-    let next = sym (ap stands (told .next .given .1)) ∙ stood .stand .ensures .is (meant (a .self)) refl refl in
+    let next = sym (ap stands (told .next .given .1)) ∙ stood .stand .ensures .is (meant (a .self)) refl refl refl in
     let raised = stood .stand .ensures .next _ (told .next .given .1) in
     search
     (by-is (goes (meant (a .self)) _ (a .bytes .now) it found next)
@@ -42,7 +42,7 @@ returns-3 c =
     let a = read .before .before .before .before .args in
     let it = known .it .given .0 .0 in
     let found = gives-is 8 (readRecord (a .bytes .now)) (sym (ap readSays (known .it .given .1)) ∙ read .read-record .ensures) in
-    let said = sym (ap stands (reply .reply .given .1)) ∙ stood .stand .ensures .is (meant (a .self)) refl refl in
+    let said = sym (ap stands (reply .reply .given .1)) ∙ stood .stand .ensures .is (meant (a .self)) refl refl refl in
     search (by-is (answered (meant (a .self)) _ (a .bytes .now) it found _ said) (c .passed2 .ensures))
 
 pub deliver-spec : {M : Type 1} → statement M
