@@ -149,9 +149,15 @@ ANY = 99
 RULES = {1: (h_rule, 1), 2: (x_rule, ANY), 3: (y_rule, 1), 4: (z_rule, 0), 5: (p_rule, ANY), 6: (rx_rule, ANY), 7: (ry_rule, ANY), 8: (rz_rule, 1), 9: (u_rule, 1)}
 
 
+def with_value(word, value):
+    return word if value is None else '%s VALUE %d' % (word, value)
+
+
 class Bench:
+    """A session and its state; kept is the value of the last record taken, or None."""
+
     def __init__(self, n, session):
-        self.n, self.session, self.count = n, session, 0
+        self.n, self.session, self.count, self.kept = n, session, 0, None
         self.re = [1.0] + [0.0] * ((1 << n) - 1)
         self.im = [0.0] * (1 << n)
 
@@ -215,14 +221,14 @@ class Bench:
         if number == FULL:
             return 'REFUSED 11'
         if number < self.count:
-            return 'AGAIN'
+            return with_value('AGAIN', self.kept if number == self.count - 1 else None)
         if number > self.count:
             return 'REFUSED 10'
         refusal, value = self.act(code, target, mask, given)
         if refusal:
             return 'REFUSED %d' % refusal
-        self.count += 1
-        return 'TAKEN' if value is None else 'TAKEN VALUE %d' % value
+        self.count, self.kept = self.count + 1, value
+        return with_value('TAKEN', value)
 
 
 # ---- records
