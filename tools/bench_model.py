@@ -149,9 +149,15 @@ ANY = 99
 RULES = {1: (h_rule, 1), 2: (x_rule, ANY), 3: (y_rule, 1), 4: (z_rule, 0), 5: (p_rule, ANY), 6: (rx_rule, ANY), 7: (ry_rule, ANY), 8: (rz_rule, 1), 9: (u_rule, 1)}
 
 
+def with_value(word, value):
+    return word if value is None else '%s VALUE %d' % (word, value)
+
+
 class Bench:
+    """A session and its state; kept is the value of the last record taken, or None."""
+
     def __init__(self, n, session):
-        self.n, self.session, self.count = n, session, 0
+        self.n, self.session, self.count, self.kept = n, session, 0, None
         self.re = [1.0] + [0.0] * ((1 << n) - 1)
         self.im = [0.0] * (1 << n)
 
@@ -215,14 +221,14 @@ class Bench:
         if number == FULL:
             return 'REFUSED 11'
         if number < self.count:
-            return 'AGAIN'
+            return with_value('AGAIN', self.kept if number == self.count - 1 else None)
         if number > self.count:
             return 'REFUSED 10'
         refusal, value = self.act(code, target, mask, given)
         if refusal:
             return 'REFUSED %d' % refusal
-        self.count += 1
-        return 'TAKEN' if value is None else 'TAKEN VALUE %d' % value
+        self.count, self.kept = self.count + 1, value
+        return with_value('TAKEN', value)
 
 
 # ---- records
@@ -329,7 +335,11 @@ class Maker:
 
     def next(self, code, target, mask=0, given=None):
         """The record that is next by number."""
-        self.raw(write(self.bench.session, self.bench.count, code, target, mask, given))
+        self.back(0, code, target, mask, given)
+
+    def back(self, by, code, target, mask=0, given=None):
+        """A record so many numbers before the next one."""
+        self.raw(write(self.bench.session, self.bench.count - by, code, target, mask, given))
 
     def angle(self):
         t = self.random.uniform(-4, 4)
@@ -493,6 +503,67 @@ def make_other_half(seed):
     return m.data
 
 
+def make_repeats(seed):
+    """Measurements told again: at once and twice, behind a refusal of each kind, with another gate's bytes; not with an older number, nor behind a gate
+    without a value."""
+    m = Maker(2, 4, seed)
+    one, zero = (11, 0, 0, (1, 0)), (11, 1, 0, (0, 0))
+
+    def twice(*gate):
+        m.back(1, *gate)
+        m.back(1, *gate)
+    m.next(1, 0)
+    m.back(1, 1, 0)
+    m.next(*one)
+    twice(*one)
+    m.back(2, 1, 0)
+    m.back(1, *one)
+    at = m.bench.count
+    for refused in (write(4, at, 2, 2), write(4, at, 2, 0, 1), write(4, at, 4, 0, 2), write(4, at, 11, 1, 0, (2, 0)), write(4, at, 11, 0, 0, (0, 0)), b'',
+                    write(4, at - 1, *one) + b'\x00', bytes(95), write(5, at - 1, *one), write(5, at, 2, 0), write(4, at + 1, 2, 0), write(4, FULL, *one)):
+        m.raw(refused)
+        m.back(1, *one)
+    for gate in ((2, 0), zero, (2, 31), (12, 0, 0, (0.5, 0.75))):
+        m.back(1, *gate)
+    m.next(4, 0)
+    m.back(2, *one)
+    twice(4, 0)
+    m.back(1, *one)
+    m.next(1, 1)
+    m.next(*zero)
+    twice(*zero)
+    m.back(4, *one)
+    m.back(1, *one)
+    for reset in ((11, 0, 0, (1, 1)), (11, 1, 0, (0, 1))):
+        m.next(*reset)
+        m.back(2, *reset)
+        twice(*reset)
+    m.next(2, 0)
+    m.back(1, 2, 0)
+    return m.data
+
+
+def make_repeated_flips(seed):
+    """Flips that ran and that did not, told again, whatever the repeat itself would do; behind each of the ten gates without a value nothing is told."""
+    m = Maker(2, 6, seed)
+    for draw in (0.25, 0.75, 0.5):
+        m.next(12, 0, 0, (0.5, draw))
+        m.back(1, 12, 0, 0, (0.5, draw))
+        m.next(12, 0, 0, (NAN, draw))
+        m.back(1, 12, 0, 0, (0.5, 1.0 - draw))
+        m.back(m.bench.count, 12, 0, 0, (0.5, 0.25))
+    for code in range(1, 11):
+        flip = (12, 1, 0, (0.5, (0.25, 0.75)[code & 1]))
+        gate = (code, 0, 0, (0.75, 0.5) if 5 <= code <= 8 else (0.75, 0.5) * 4 if code == 9 else 1)
+        m.next(*flip)
+        m.next(*gate)
+        m.back(1, *gate)
+        m.back(2, *flip)
+    m.next(*flip)
+    m.back(1, *flip)
+    return m.data
+
+
 def make_eleven(seed):
     m = Maker(11, 11, seed)
     m.next(1, 10)
@@ -567,6 +638,8 @@ MAKE = {
     'half_of_zeros': make_half_of_zeros,
     'other_half': make_other_half,
     'refusals': make_refusals,
+    'repeats': make_repeats,
+    'repeated_flips': make_repeated_flips,
     'eleven': make_eleven,
     'many': make_many,
     'deliveries': make_deliveries,
