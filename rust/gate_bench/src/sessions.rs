@@ -59,3 +59,19 @@ impl Session {
         self.words[3].checked_sub(1).map(|value| value as u8)
     }
 }
+
+#[cfg(test)]
+mod tests {
+    use super::*;
+
+    #[test]
+    fn a_start_writes_every_word_or_none() {
+        let mut words = [9; 8];
+        for n in [0, 25, u32::MAX] {
+            assert_eq!((ffi::start(&mut words, n, 7), words), (1, [9; 8]));
+        }
+        for n in [1, 24] {
+            assert_eq!((ffi::start(&mut words, n, 7), words), (0, [n, 7, 0, 0, 0, 0, 0, 0]));
+        }
+    }
+}
