@@ -4,16 +4,17 @@
  *   0         taken
  *   1 to 255  refused, with the rule book's number; then nothing has changed. This archive gives 1 to 12
  *             (GATE_BENCH_REFUSED_...), a later one may give more
- *   256       AGAIN: a delivery's record was run before, and nothing has changed
+ *   256       AGAIN: a delivery's record was run before, and nothing has changed; no value is told
+ *   512 + v   AGAIN likewise: the record was the last one taken, and its value was v (0 or 1)
  *   768 + v   taken, with the value v (0 or 1) of a measurement or a bit flip
  *   1024      gate_bench_feed alone: no frame is complete yet; 1025: and none will be, a wrong tag came
- * 512 + v is kept for later, for an AGAIN that tells a value v. So a caller that is to outlive this archive asks in this order:
- * 0 taken, below 256 refused, below 768 AGAIN, below 1024 a value. A record's writing alone answers with a size (see there).
+ * So a caller asks in this order: 0 taken, below 256 refused, below 768 AGAIN (from 512 on with a value), below 1024 a value.
+ * A record's writing alone answers with a size (see there).
  * A state of n qubits is two buffers of 2^n doubles, real and imaginary parts; a matrix two of 4^n, row by row.
- * A slice is passed as a pointer and a length in elements. What the caller answers for: the pointer is not NULL and is
- * aligned, that many elements are there, nothing that a call writes overlaps another of its buffers, and no other thread
- * touches them meanwhile. And the thread that calls has the processor's floating-point settings as a program starts with
- * them: rounding to nearest, subnormals kept. A program linked with -ffast-math, or one that called fesetround, may have
+ * A slice is passed as a pointer and a length in elements. What the caller answers for: each pointer is not NULL and is aligned,
+ * what it points to is there, a slice with all its elements, nothing that a call writes overlaps another of its buffers, and no
+ * other thread touches them meanwhile. And the thread that calls has the processor's floating-point settings as a program starts
+ * with them: rounding to nearest, subnormals kept. A program linked with -ffast-math, or one that called fesetround, may have
  * others, and then results differ: gate_bench_environment_is_default() tells. Everything else is proved (crates/c_api): each
  * call's number and every place that it writes, up to a NaN's payload, which no proof fixes.
  * Link with the archive alone; it calls nothing but itself. It is x86-64 code. */
@@ -43,6 +44,8 @@ enum gate_bench_answer {
     GATE_BENCH_REFUSED_FULL = 11,
     GATE_BENCH_REFUSED_ROOM = 12,
     GATE_BENCH_AGAIN = 256,
+    GATE_BENCH_AGAIN_VALUE_0 = 512,
+    GATE_BENCH_AGAIN_VALUE_1 = 513,
     GATE_BENCH_VALUE_0 = 768,
     GATE_BENCH_VALUE_1 = 769,
     GATE_BENCH_WAITING = 1024,
@@ -51,12 +54,33 @@ enum gate_bench_answer {
 
 /* ---- sessions */
 
-/* 0 where a session of n qubits can start (n 1 to 24), else 1. A session is n, its number, and a count that starts at 0. */
-uint32_t gate_bench_start(uint32_t n, uint32_t number);
+/* A session is eight words that the caller keeps: always 32 bytes, in later archives too. They may be saved with the state's
+ * buffers, and go on with them later. Any eight words are a session: of count the low 16 bits are looked at, of value - 1 the
+ * low 8. A call that takes no record leaves all eight as they were. */
+struct gate_bench_session {
+    uint32_t n;        /* qubits; never changes */
+    uint32_t number;   /* the session's number; never changes */
+    uint32_t count;    /* how many records were taken */
+    uint32_t value;    /* of the last record taken: 0 for none, v + 1 for a value v */
+    uint32_t later[4]; /* for later archives: 0 at the start; no call of this one looks at them */
+};
 
-/* One delivery: the bytes are read as a record and, if its number is the count, run on the state; the count is then one
- * higher. A lower number answers 256, a higher one 10. Refusals in the order 1, 2, 8, 9, 11, (256), 10, 3 to 7. */
-uint32_t gate_bench_deliver(uint32_t n, uint32_t number, uint16_t *count, const uint8_t *bytes, size_t bytes_len, double *reals,
+/* If this does not compile, the struct has not 32 bytes. */
+typedef char gate_bench_session_has_32_bytes[sizeof(struct gate_bench_session) == 32 ? 1 : -1];
+
+/* The value of the last record taken, which AGAIN tells; -1 if it has none, or if no record was taken. */
+static inline int gate_bench_session_value(const struct gate_bench_session *session) {
+    return session->value == 0 ? -1 : (int)((session->value - 1) & 255u);
+}
+
+/* 0 where a session of n qubits can start (n 1 to 24), and then all eight words are written: n, number, and six times 0. Else 1,
+ * and none is. */
+uint32_t gate_bench_start(struct gate_bench_session *session, uint32_t n, uint32_t number);
+
+/* One delivery: the bytes are read as a record and, if its number is the count, run on the state; the count is then one higher,
+ * and the value is the record's. A lower number answers AGAIN: count - 1 tells the value, if there is one, whatever else the
+ * bytes say; older ones tell none. A higher number answers 10. Refusals in the order 1, 2, 8, 9, 11, (AGAIN), 10, 3 to 7. */
+uint32_t gate_bench_deliver(struct gate_bench_session *session, const uint8_t *bytes, size_t bytes_len, double *reals,
                             size_t reals_len, double *imags, size_t imags_len);
 
 /* ---- bytes as they come, from a socket or a serial line */
@@ -64,14 +88,14 @@ uint32_t gate_bench_deliver(uint32_t n, uint32_t number, uint16_t *count, const 
 /* The most bytes of a frame that are held between two calls. */
 #define GATE_BENCH_HELD 97
 
-/* A stream of frames (20, a length of two bytes, a record) in pieces of any size: nothing, a part of a frame, or several frames and
- * a part. A call uses the piece up to the end of the first frame that it completes, delivers that as gate_bench_deliver does, and
- * answers the same; *used says how many bytes it took, and those behind are for the next call. Where the piece completes no frame
- * all of it is used: 1024, or 1025 behind a wrong tag, where no later byte changes anything. A frame over 94 bytes is read past and
- * answered 8 when its last byte has come. Between two calls the caller keeps *kept, 0 at first, and the 97 bytes at held, whose
- * first contents do not matter; a frame that stands whole in its piece is delivered from there. If the input ends while *kept is
- * not 0, it was cut inside a frame or had a wrong tag. */
-uint32_t gate_bench_feed(uint32_t n, uint32_t number, uint16_t *count, uint32_t *kept, uint8_t *held, const uint8_t *piece,
+/* A stream of frames (20, a length of two bytes, a record) in pieces of any size: nothing, a part of a frame, or several frames
+ * and a part. A call uses the piece up to the end of the first frame that it completes, delivers that as gate_bench_deliver does,
+ * and answers the same; *used says how many bytes it took, and those behind are for the next call. Where the piece completes no
+ * frame all of it is used: 1024, or 1025 behind a wrong tag, where no later byte changes anything. A frame over 94 bytes is read
+ * past and answered 8 when its last byte has come. Between two calls the caller keeps the session, *kept, 0 at first, and the 97
+ * bytes at held, whose first contents do not matter; a frame that stands whole in its piece is delivered from there. If the input
+ * ends while *kept is not 0, it was cut inside a frame or had a wrong tag. */
+uint32_t gate_bench_feed(struct gate_bench_session *session, uint32_t *kept, uint8_t *held, const uint8_t *piece,
                          size_t piece_len, size_t *used, double *reals, size_t reals_len, double *imags, size_t imags_len);
 
 /* ---- gates: ones has a bit set for each control */
@@ -111,8 +135,9 @@ uint32_t gate_bench_swap_apply(double *reals, size_t reals_len, double *imags, s
 uint32_t gate_bench_bit_flip_noise_apply(double *reals, size_t reals_len, double *imags, size_t imags_len, uint32_t n,
                             uint32_t target, double prob, double draw);
 
-/* A measurement whose outcome (0 or 1) is forced; with reset 1 the qubit is set back to 0. The value is the outcome. Its probability is the sum of
- * the squares over its own half of the places; where that is 0, as in a half of zeros, or not finite: 7. */
+/* A measurement whose outcome (0 or 1) is forced; with reset 1 the qubit is set back to 0. The value is the outcome. Its
+ * probability is the sum of the squares over its own half of the places; where that is 0, as in a half of zeros, or not
+ * finite: 7. */
 uint32_t gate_bench_measure_qubit(double *reals, size_t reals_len, double *imags, size_t imags_len, uint32_t n, uint32_t target,
                             uint8_t outcome, uint8_t reset);
 
@@ -192,29 +217,17 @@ static inline int gate_bench_environment_is_default(void) {
            gate_bench_has_bits(result, 0x0008000000000000u) && gate_bench_has_bits(operand, 0x3CC0000000000000u);
 }
 
-/* ---- for convenience: a session's three numbers in one place */
+/* ---- for convenience: a session whose state has `places` places in each buffer */
 
-struct gate_bench_session {
-    uint32_t n;
-    uint32_t number;
-    uint16_t count;
-};
-
-/* 0 and a session whose count is 0, or 1 and the session as it was. */
+/* 0 and a session that took no record, or 1 and the session as it was. */
 static inline uint32_t gate_bench_session_start(struct gate_bench_session *session, uint32_t n, uint32_t number) {
-    uint32_t answer = gate_bench_start(n, number);
-    if (answer == GATE_BENCH_TAKEN) {
-        session->n = n;
-        session->number = number;
-        session->count = 0;
-    }
-    return answer;
+    return gate_bench_start(session, n, number);
 }
 
-/* One delivery to a session whose state has `places` places in each buffer. */
+/* One delivery. */
 static inline uint32_t gate_bench_session_deliver(struct gate_bench_session *session, const uint8_t *bytes, size_t bytes_len,
                                                   double *reals, double *imags, size_t places) {
-    return gate_bench_deliver(session->n, session->number, &session->count, bytes, bytes_len, reals, places, imags, places);
+    return gate_bench_deliver(session, bytes, bytes_len, reals, places, imags, places);
 }
 
 /* ---- for convenience: a stream, its session and what is kept of it between two pieces */
@@ -234,10 +247,9 @@ static inline uint32_t gate_bench_stream_start(struct gate_bench_stream *stream,
 }
 
 /* The next answer that a piece gives; call again with the piece from *used on until it is 1024 or 1025. */
-static inline uint32_t gate_bench_stream_take(struct gate_bench_stream *stream, const uint8_t *piece, size_t piece_len, size_t *used,
-                                              double *reals, double *imags, size_t places) {
-    return gate_bench_feed(stream->session.n, stream->session.number, &stream->session.count, &stream->kept, stream->held, piece,
-                           piece_len, used, reals, places, imags, places);
+static inline uint32_t gate_bench_stream_take(struct gate_bench_stream *stream, const uint8_t *piece, size_t piece_len,
+                                              size_t *used, double *reals, double *imags, size_t places) {
+    return gate_bench_feed(&stream->session, &stream->kept, stream->held, piece, piece_len, used, reals, places, imags, places);
 }
 
 /* Whether an input that ends here is cut: inside a frame, or behind a wrong tag. */

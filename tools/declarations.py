@@ -1,8 +1,9 @@
 #!/usr/bin/env python3
 """Holds include/gate_bench.h and rust/gate_bench/src/ffi.rs to the exported functions of crates/c_api.
 
-A parameter `&[T]` or `&mut [T]` of an exported function is a pointer and a length in elements, `&mut T` and `&mut [T; N]` a pointer. Each
-function's declaration is worked out from its Rattle signature and looked for, with names and types in order.
+A parameter `&[T]` or `&mut [T]` of an exported function is a pointer and a length in elements, `&mut T` and `&mut [T; N]` a pointer. The eight
+words of a session have a struct in C, which the header holds to 32 bytes. Each function's declaration is worked out from its Rattle signature
+and looked for, with names and types in order.
 """
 import glob
 import os
@@ -10,7 +11,8 @@ import re
 import sys
 
 ROOT = os.path.dirname(os.path.dirname(os.path.abspath(__file__)))
-C = {'u8': 'uint8_t', 'u16': 'uint16_t', 'u32': 'uint32_t', 'f64': 'double', 'usize': 'size_t'}
+C = {'u8': 'uint8_t', 'u16': 'uint16_t', 'u32': 'uint32_t', 'f64': 'double', 'usize': 'size_t', 'Session': 'struct gate_bench_session'}
+SESSION = 'session', '&mut [u32; 8]'
 
 
 def text(path):
@@ -40,6 +42,7 @@ def parts(params):
 
 
 def in_c(name, params, result):
+    params = [('session', '&mut Session') if param == SESSION else param for param in params]
     args = ', '.join({'': f'{C[t]} {n}', 'mut': f'{C[t]} *{n}', 'const': f'const {C[t]} *{n}'}[p] for n, t, p in parts(params))
     return f'{C[result]} {name}({args});'
 

@@ -1,5 +1,6 @@
 /* Three qubits over a bad line, from C. Three records make a GHZ state; they arrive late, early, repeated and with junk between.
- * Each is run once, in order, and the state is bit for bit what the records give when nothing goes wrong. */
+ * Each is run once, in order, and the state is bit for bit what the records give when nothing goes wrong. A fourth measures; its
+ * answer is lost, and its repeat tells the outcome again. */
 #include <inttypes.h>
 #include <stdio.h>
 #include <string.h>
@@ -19,9 +20,9 @@ struct state {
     double imags[PLACES];
 };
 
-/* H on qubit 0 for code 1, X for code 2; the mask has a bit set for each control. */
-static struct message record(uint32_t session, uint32_t number, uint32_t code, uint32_t target, uint32_t mask) {
-    uint32_t fields[GATE_BENCH_FIELDS] = {session, number, code, target, mask, 0};
+/* H for code 1 and X for code 2: second has a bit set for each control. A measurement for code 11: second is its outcome. */
+static struct message record(uint32_t session, uint32_t number, uint32_t code, uint32_t target, uint32_t second) {
+    uint32_t fields[GATE_BENCH_FIELDS] = {session, number, code, target, second, 0};
     double numbers[GATE_BENCH_NUMBERS] = {0};
     struct message out = {{0}, 0};
     out.size = gate_bench_write_record(fields, GATE_BENCH_FIELDS, numbers, GATE_BENCH_NUMBERS, out.bytes, sizeof out.bytes);
@@ -29,7 +30,7 @@ static struct message record(uint32_t session, uint32_t number, uint32_t code, u
 }
 
 static struct state start(void) {
-    struct state s = {{0, 0, 0}, {1.0}, {0}};
+    struct state s = {.reals = {1.0}};
     gate_bench_session_start(&s.session, QUBITS, OWN);
     return s;
 }
@@ -45,8 +46,10 @@ static void arrive(struct state *s, const char *what, const struct message *m) {
         printf("TAKEN");
     else if (answer < GATE_BENCH_AGAIN)
         printf("REFUSED %" PRIu32, answer);
-    else if (answer < GATE_BENCH_VALUE_0)
+    else if (answer < GATE_BENCH_AGAIN_VALUE_0)
         printf("AGAIN");
+    else if (answer < GATE_BENCH_VALUE_0)
+        printf("AGAIN VALUE %" PRIu32, answer - GATE_BENCH_AGAIN_VALUE_0);
     else
         printf("VALUE %" PRIu32, answer - GATE_BENCH_VALUE_0);
     printf(" COUNT %u\n", (unsigned)s->session.count);
@@ -66,6 +69,7 @@ int main(void) {
     struct message h = record(OWN, 0, 1, 0, 0);
     struct message x1 = record(OWN, 1, 2, 1, 1);
     struct message x2 = record(OWN, 2, 2, 2, 2);
+    struct message m = record(OWN, 3, 11, 2, 1);
     struct message other = record(OWN + 1, 0, 2, 0, 0);
     struct message junk = {{0xde, 0xad, 0xbe, 0xef}, 4};
     struct message cut = x1;
@@ -85,12 +89,18 @@ int main(void) {
     arrive(&bad, "record 2 again", &x2);
     for (int i = 0; i < PLACES; i++)
         printf("A %d %.6f %016" PRIx64 " %.6f %016" PRIx64 "\n", i, bad.reals[i], bits(bad.reals[i]), bad.imags[i], bits(bad.imags[i]));
+    arrive(&bad, "record 3: 2 measured, 1 forced", &m);
+    arrive(&bad, "record 3 again, the answer lost", &m);
+    arrive(&bad, "record 2 once more", &x2);
+    printf("the value that the session keeps: %d\n", gate_bench_session_value(&bad.session));
 
     struct state good = start();
     deliver(&good, &h);
     deliver(&good, &x1);
     deliver(&good, &x2);
-    int same = memcmp(good.reals, bad.reals, sizeof bad.reals) == 0 && memcmp(good.imags, bad.imags, sizeof bad.imags) == 0;
+    deliver(&good, &m);
+    int same = memcmp(&good.session, &bad.session, sizeof bad.session) == 0 &&
+               memcmp(good.reals, bad.reals, sizeof bad.reals) == 0 && memcmp(good.imags, bad.imags, sizeof bad.imags) == 0;
     printf("the same records, once each and in order: %s\n", same ? "the same bits" : "OTHER BITS");
     return same ? 0 : 1;
 }

@@ -1,4 +1,4 @@
-//! The archive's one number as an answer: 0 taken, 1 to 255 a refusal, 256 AGAIN, 768 + v a value.
+//! The archive's one number as an answer: 0 taken, 1 to 255 a refusal, 256 AGAIN, 512 + v AGAIN with a value, 768 + v a value.
 use std::error::Error;
 use std::fmt;
 
@@ -115,14 +115,16 @@ pub enum Answer {
 #[derive(Clone, Copy, Debug, PartialEq, Eq)]
 pub enum Reply {
     Taken,
+    /// Taken, with the outcome of a measurement, or 1 where a bit flip ran.
     Value(u8),
-    /// The record was run before; nothing has changed.
-    Again,
+    /// The record was run before; nothing has changed. The value is that record's if it was the last one taken, and has one.
+    Again(Option<u8>),
     Refused(Refusal),
 }
 
 const TAKEN: u32 = 0;
 const AGAIN: u32 = 256;
+const AGAIN_VALUE: u32 = 512;
 const VALUE: u32 = 768;
 
 /// 1 to 255, by its name if it has one.
@@ -145,9 +147,8 @@ impl Answer {
 
 impl Reply {
     pub(crate) fn of(number: u32) -> Reply {
-        // What lies between AGAIN and VALUE is kept for an AGAIN that tells more.
         if (AGAIN..VALUE).contains(&number) {
-            return Reply::Again;
+            return Reply::Again(number.checked_sub(AGAIN_VALUE).map(|value| value as u8));
         }
         match Answer::of(number) {
             Answer::Taken => Reply::Taken,
@@ -174,11 +175,11 @@ mod tests {
     #[test]
     fn taken_again_and_values() {
         assert_eq!((Answer::of(0), Reply::of(0)), (Answer::Taken, Reply::Taken));
-        assert_eq!(Reply::of(256), Reply::Again);
+        assert_eq!(Reply::of(256), Reply::Again(None));
         for value in 0..=255 {
             let number = 768 + u32::from(value);
             assert_eq!((Answer::of(number), Reply::of(number)), (Answer::Value(value), Reply::Value(value)));
-            assert_eq!(Reply::of(512 + u32::from(value)), Reply::Again);
+            assert_eq!(Reply::of(512 + u32::from(value)), Reply::Again(Some(value)));
         }
     }
 }

@@ -37,11 +37,11 @@ mod declared {
             bi: *const f64, bi_len: usize, reals: *mut f64, reals_len: usize, imags: *mut f64, imags_len: usize, n: u32) -> u32;
         pub fn gate_bench_apply_unitary(ar: *const f64, ar_len: usize, ai: *const f64, ai_len: usize, sr: *const f64, sr_len: usize,
             si: *const f64, si_len: usize, reals: *mut f64, reals_len: usize, imags: *mut f64, imags_len: usize, n: u32) -> u32;
-        pub fn gate_bench_start(n: u32, number: u32) -> u32;
-        pub fn gate_bench_deliver(n: u32, number: u32, count: *mut u16, bytes: *const u8, bytes_len: usize, reals: *mut f64,
-            reals_len: usize, imags: *mut f64, imags_len: usize) -> u32;
-        pub fn gate_bench_feed(n: u32, number: u32, count: *mut u16, kept: *mut u32, held: *mut u8, piece: *const u8, piece_len: usize,
-            used: *mut usize, reals: *mut f64, reals_len: usize, imags: *mut f64, imags_len: usize) -> u32;
+        pub fn gate_bench_start(session: *mut u32, n: u32, number: u32) -> u32;
+        pub fn gate_bench_deliver(session: *mut u32, bytes: *const u8, bytes_len: usize, reals: *mut f64, reals_len: usize,
+            imags: *mut f64, imags_len: usize) -> u32;
+        pub fn gate_bench_feed(session: *mut u32, kept: *mut u32, held: *mut u8, piece: *const u8, piece_len: usize, used: *mut usize,
+            reals: *mut f64, reals_len: usize, imags: *mut f64, imags_len: usize) -> u32;
         pub fn gate_bench_read_record(bytes: *const u8, bytes_len: usize, fields: *mut u32, fields_len: usize, numbers: *mut f64,
             numbers_len: usize) -> u32;
         pub fn gate_bench_write_record(fields: *const u32, fields_len: usize, numbers: *const f64, numbers_len: usize, out: *mut u8,
@@ -126,20 +126,21 @@ pub fn apply_unitary(ar: &[f64], ai: &[f64], sr: &[f64], si: &[f64], reals: &mut
         reals.as_mut_ptr(), reals.len(), imags.as_mut_ptr(), imags.len(), n) }
 }
 
-pub fn start(n: u32, number: u32) -> u32 {
-    unsafe { declared::gate_bench_start(n, number) }
+/// A session's words: eight, as the archive's functions take them.
+pub fn start(session: &mut [u32; 8], n: u32, number: u32) -> u32 {
+    unsafe { declared::gate_bench_start(session.as_mut_ptr(), n, number) }
 }
 
-pub fn deliver(n: u32, number: u32, count: &mut u16, bytes: &[u8], reals: &mut [f64], imags: &mut [f64]) -> u32 {
-    unsafe { declared::gate_bench_deliver(n, number, count, bytes.as_ptr(), bytes.len(), reals.as_mut_ptr(), reals.len(),
+pub fn deliver(session: &mut [u32; 8], bytes: &[u8], reals: &mut [f64], imags: &mut [f64]) -> u32 {
+    unsafe { declared::gate_bench_deliver(session.as_mut_ptr(), bytes.as_ptr(), bytes.len(), reals.as_mut_ptr(), reals.len(),
         imags.as_mut_ptr(), imags.len()) }
 }
 
 /// The bytes that are held: 97, as the archive's function takes them.
-pub fn feed(n: u32, number: u32, count: &mut u16, kept: &mut u32, held: &mut [u8; 97], piece: &[u8], used: &mut usize, reals: &mut [f64],
+pub fn feed(session: &mut [u32; 8], kept: &mut u32, held: &mut [u8; 97], piece: &[u8], used: &mut usize, reals: &mut [f64],
     imags: &mut [f64]) -> u32 {
-    unsafe { declared::gate_bench_feed(n, number, count, kept, held.as_mut_ptr(), piece.as_ptr(), piece.len(), used, reals.as_mut_ptr(),
-        reals.len(), imags.as_mut_ptr(), imags.len()) }
+    unsafe { declared::gate_bench_feed(session.as_mut_ptr(), kept, held.as_mut_ptr(), piece.as_ptr(), piece.len(), used,
+        reals.as_mut_ptr(), reals.len(), imags.as_mut_ptr(), imags.len()) }
 }
 
 pub fn read_record(bytes: &[u8], fields: &mut [u32], numbers: &mut [f64]) -> u32 {

@@ -3,10 +3,10 @@
 //! Every call takes any numbers and any bytes, and ends. A refusal changes nothing. What each call answers and leaves is proved
 //! in the repository's crates; this crate only passes slices on and names the answers.
 //!
-//! A modem that got no answer sends a record again, and it is run once:
+//! A modem that got no answer sends a record again. It is run once, and a measurement's outcome is told again:
 //!
 //! ```
-//! use gate_bench::{environment_is_default, write_record, Gate, Record, Refusal, Reply, Session, RECORD_MOST};
+//! use gate_bench::{environment_is_default, write_record, Forced, Gate, Record, Refusal, Reply, Session, RECORD_MOST};
 //!
 //! fn main() -> Result<(), Refusal> {
 //!     assert!(environment_is_default());
@@ -17,12 +17,20 @@
 //!     let size = write_record(&Record { session: 7, number: 0, gate: Gate::X(0, 0) }, &mut bytes)?;
 //!     let x = &bytes[..size];
 //!     assert_eq!(session.deliver(x, &mut reals, &mut imags), Reply::Taken);
-//!     assert_eq!(session.deliver(x, &mut reals, &mut imags), Reply::Again);
+//!     assert_eq!(session.deliver(x, &mut reals, &mut imags), Reply::Again(None));
 //!     assert_eq!((session.count(), reals), (1, [0.0, 1.0]));
 //!
-//!     // Saved as three numbers beside the buffers, and resumed: the record is still known.
-//!     let mut later = Session::resume(session.n(), session.number(), session.count())?;
-//!     assert_eq!(later.deliver(x, &mut reals, &mut imags), Reply::Again);
+//!     // A measurement's repeat tells its outcome again, until another record is taken.
+//!     let gate = Gate::Measure(0, Forced { outcome: 1, reset: 0 });
+//!     let size = write_record(&Record { session: 7, number: 1, gate }, &mut bytes)?;
+//!     let measurement = &bytes[..size];
+//!     assert_eq!(session.deliver(measurement, &mut reals, &mut imags), Reply::Value(1));
+//!     assert_eq!(session.deliver(measurement, &mut reals, &mut imags), Reply::Again(Some(1)));
+//!
+//!     // Saved as eight words beside the buffers, and made of them again: the record is still known, and so is its outcome.
+//!     let saved: [u32; 8] = session.words();
+//!     let mut later = Session::from_words(saved)?;
+//!     assert_eq!(later.deliver(measurement, &mut reals, &mut imags), Reply::Again(Some(1)));
 //!
 //!     let refused = Session::start(25, 7).unwrap_err();
 //!     assert_eq!(refused.to_string(), "1 SIZE: n is out of range");

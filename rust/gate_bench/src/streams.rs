@@ -29,7 +29,7 @@ const WAITING: u32 = 1024;
 ///             replies.push((reply, stream.session().count()));
 ///         }
 ///     }
-///     assert_eq!(replies, [(Reply::Taken, 1), (Reply::Again, 1)]);
+///     assert_eq!(replies, [(Reply::Taken, 1), (Reply::Again(None), 1)]);
 ///     assert_eq!((reals, stream.is_cut()), ([0.0, 1.0], false));
 ///     Ok(())
 /// }

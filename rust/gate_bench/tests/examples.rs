@@ -143,7 +143,7 @@ fn deliveries() {
         said.push((reply, session.count()));
     }
     let early = Reply::Refused(Refusal::Early);
-    assert_eq!(said, [(Reply::Taken, 1), (Reply::Again, 1), (early, 1), (Reply::Taken, 2)]);
+    assert_eq!(said, [(Reply::Taken, 1), (Reply::Again(None), 1), (early, 1), (Reply::Taken, 2)]);
     assert_eq!(bits(&reals), bits(&[1.0, 0.0]));
 }
 
@@ -234,17 +234,159 @@ fn refusals_say_the_tables_words() {
     }
 }
 
+/// A session of one qubit whose number is 7, and its state.
+struct Bench {
+    session: Session,
+    reals: [f64; 2],
+    imags: [f64; 2],
+}
+
+impl Bench {
+    fn of(session: Session) -> Bench {
+        Bench { session, reals: [0.6, 0.8], imags: [0.0; 2] }
+    }
+
+    fn start() -> Bench {
+        Bench::of(Session::start(1, 7).expect("one qubit"))
+    }
+
+    fn deliver_bytes(&mut self, bytes: &[u8]) -> Reply {
+        self.session.deliver(bytes, &mut self.reals, &mut self.imags)
+    }
+
+    fn deliver(&mut self, number: u16, gate: Gate) -> Reply {
+        self.deliver_bytes(&bytes(&Record { session: 7, number, gate }))
+    }
+
+    /// All eight words and the state: what a refusal and AGAIN leave as it was.
+    fn all(&self) -> ([u32; 8], Vec<u64>) {
+        (self.session.words(), bits(&[self.reals, self.imags].concat()))
+    }
+}
+
+const X: Gate = Gate::X(0, 0);
+
+fn measure(outcome: u8, reset: u8) -> Gate {
+    Gate::Measure(0, Forced { outcome, reset })
+}
+
+/// Request 04: the answer to a measurement was lost, and the console asks again.
 #[test]
-fn sessions_are_resumed() {
-    let (mut reals, mut imags) = ([1.0, 0.0], [0.0; 2]);
-    let mut session = Session::start(1, 7).expect("one qubit");
-    session.deliver(&x_numbered(0), &mut reals, &mut imags);
-    let mut later = Session::resume(session.n(), session.number(), session.count()).expect("one qubit");
-    assert_eq!(later, session);
-    assert_eq!(later.deliver(&x_numbered(0), &mut reals, &mut imags), Reply::Again);
-    assert_eq!(later.deliver(&x_numbered(1), &mut reals, &mut imags), Reply::Taken);
-    assert_eq!((later.count(), bits(&reals)), (2, bits(&[1.0, 0.0])));
-    assert_eq!(Session::resume(0, 7, 3), Err(Refusal::Size));
+fn a_repeat_tells_the_outcome_again() {
+    for (outcome, reset) in [(0, 0), (0, 1), (1, 0), (1, 1)] {
+        let mut bench = Bench::start();
+        assert_eq!(bench.session.value(), None);
+        assert_eq!(bench.deliver(0, measure(outcome, reset)), Reply::Value(outcome));
+        assert_eq!((bench.session.count(), bench.session.value()), (1, Some(outcome)));
+        let left = bench.all();
+        for _ in 0..3 {
+            assert_eq!(bench.deliver(0, measure(outcome, reset)), Reply::Again(Some(outcome)));
+            assert_eq!(bench.all(), left);
+        }
+    }
+}
+
+#[test]
+fn a_flip_tells_again_whether_it_ran() {
+    for (draw, value) in [(0.25, 1), (0.5, 1), (0.75, 0)] {
+        let (mut bench, flip) = (Bench::start(), Gate::BitFlip(0, Noise { prob: 0.5, draw }));
+        assert_eq!(bench.deliver(0, flip), Reply::Value(value));
+        assert_eq!(bench.deliver(0, flip), Reply::Again(Some(value)));
+        assert_eq!(bench.reals, if value == 1 { [0.8, 0.6] } else { [0.6, 0.8] });
+    }
+}
+
+#[test]
+fn an_older_repeat_tells_nothing() {
+    let mut bench = Bench::start();
+    assert_eq!(bench.deliver(0, measure(1, 0)), Reply::Value(1));
+    assert_eq!(bench.deliver(1, X), Reply::Taken);
+    assert_eq!(bench.session.value(), None);
+    assert_eq!(bench.deliver(0, measure(1, 0)), Reply::Again(None));
+    assert_eq!(bench.deliver(1, X), Reply::Again(None));
+    assert_eq!(bench.deliver(2, measure(0, 0)), Reply::Value(0));
+    assert_eq!(bench.deliver(0, measure(1, 0)), Reply::Again(None));
+    assert_eq!(bench.deliver(1, X), Reply::Again(None));
+    assert_eq!(bench.deliver(2, measure(0, 0)), Reply::Again(Some(0)));
+    assert_eq!(bench.deliver(3, Gate::BitFlip(0, Noise { prob: 1.0, draw: 0.0 })), Reply::Value(1));
+    assert_eq!(bench.deliver(2, measure(0, 0)), Reply::Again(None));
+    assert_eq!((bench.session.count(), bench.session.value()), (4, Some(1)));
+}
+
+#[test]
+fn a_refusal_between_leaves_the_value() {
+    let mut bench = Bench::start();
+    assert_eq!(bench.deliver(0, measure(1, 0)), Reply::Value(1));
+    let left = bench.all();
+    let other = bytes(&Record { session: 8, number: 1, gate: X });
+    for (refusal, refused) in [
+        (Refusal::Record, vec![9; 5]),
+        (Refusal::Session, other),
+        (Refusal::Full, x_numbered(65535)),
+        (Refusal::Early, x_numbered(2)),
+        (Refusal::Qubit, bytes(&Record { session: 7, number: 1, gate: Gate::X(1, 0) })),
+        (Refusal::Chance, bytes(&Record { session: 7, number: 1, gate: measure(0, 0) })),
+    ] {
+        assert_eq!(bench.deliver_bytes(&refused), Reply::Refused(refusal));
+        assert_eq!(bench.all(), left, "{refusal:?}");
+        assert_eq!(bench.deliver(0, measure(1, 0)), Reply::Again(Some(1)), "{refusal:?}");
+    }
+}
+
+/// Whatever else the bytes say: of a repeat nothing but its session and its number is looked at.
+#[test]
+fn the_number_alone_decides() {
+    let mut bench = Bench::start();
+    assert_eq!(bench.deliver(0, measure(1, 0)), Reply::Value(1));
+    for gate in [X, measure(0, 0), measure(7, 7), Gate::X(200, 0)] {
+        assert_eq!(bench.deliver(0, gate), Reply::Again(Some(1)), "{gate:?}");
+    }
+}
+
+#[test]
+fn sessions_go_on_from_their_words() {
+    let mut bench = Bench::start();
+    assert_eq!(bench.session.words(), [1, 7, 0, 0, 0, 0, 0, 0]);
+    assert_eq!(bench.deliver(0, X), Reply::Taken);
+    assert_eq!(bench.deliver(1, measure(1, 0)), Reply::Value(1));
+    let saved = bench.session.words();
+    assert_eq!(saved[..4], [1, 7, 2, 2]);
+    let mut later = Bench { session: Session::from_words(saved).expect("one qubit"), ..bench };
+    assert_eq!(later.session, bench.session);
+    let Bench { session, .. } = &later;
+    assert_eq!((session.n(), session.number(), session.count(), session.value()), (1, 7, 2, Some(1)));
+    assert_eq!(later.deliver(0, X), Reply::Again(None));
+    assert_eq!(later.deliver(1, measure(1, 0)), Reply::Again(Some(1)));
+    assert_eq!(later.deliver(2, X), Reply::Taken);
+    assert_eq!((later.session.count(), later.session.value(), bits(&later.reals)), (3, None, bits(&[1.0, 0.0])));
+    for n in [0, 25, u32::MAX] {
+        assert_eq!(Session::from_words([n, 7, 3, 0, 0, 0, 0, 0]), Err(Refusal::Size));
+    }
+}
+
+/// Any eight words are a session: of the third the low 16 bits are the count, of the fourth less 1 the low 8 are the value.
+#[test]
+fn words_of_any_kind() {
+    let words = [1, 7, 65536 + 5, 300, 11, 12, 13, 14];
+    let mut bench = Bench::of(Session::from_words(words).expect("one qubit"));
+    assert_eq!((bench.session.count(), bench.session.value()), (5, Some(43)));
+    let left = bench.all();
+    assert_eq!(left.0, words);
+    let early = Reply::Refused(Refusal::Early);
+    for (number, reply) in [(6, early), (4, Reply::Again(Some(43))), (3, Reply::Again(None)), (65535, Reply::Refused(Refusal::Full))] {
+        assert_eq!(bench.deliver(number, X), reply);
+        assert_eq!(bench.all(), left, "{number}");
+    }
+    assert_eq!(bench.deliver(5, Gate::X(1, 0)), Reply::Refused(Refusal::Qubit));
+    assert_eq!(bench.all(), left);
+    assert_eq!(bench.deliver(5, X), Reply::Taken);
+    assert_eq!(bench.session.words()[..4], [1, 7, 6, 0]);
+
+    // With a count of 0 nothing is a repeat, whatever value is kept.
+    let mut bench = Bench::of(Session::from_words([1, 7, 65536, 2, 0, 0, 0, 0]).expect("one qubit"));
+    assert_eq!(bench.deliver(65534, X), early);
+    assert_eq!(bench.deliver(0, X), Reply::Taken);
+    assert_eq!(bench.deliver(0, X), Reply::Again(None));
 }
 
 #[test]
@@ -378,10 +520,13 @@ fn fed(sent: &[u8], pieces: &[usize]) -> (Vec<(Reply, u16)>, [u64; 2], bool, boo
 
 #[test]
 fn a_stream_cut_anywhere() {
-    let sent = [frame(&x_numbered(0)), frame(&[]), frame(&x_numbered(0)), frame(&[9; 300]), frame(&x_numbered(1)), vec![0x20, 0]].concat();
+    let measured = frame(&bytes(&Record { session: 7, number: 1, gate: measure(1, 0) }));
+    let sent = [frame(&x_numbered(0)), frame(&[]), frame(&x_numbered(0)), measured.clone(), frame(&[9; 300]), measured.clone()].concat();
+    let sent = [sent, frame(&x_numbered(2)), measured, vec![0x20, 0]].concat();
     let whole = fed(&sent, &[sent.len()]);
-    let refused = Reply::Refused(Refusal::Record);
-    assert_eq!(whole.0, [(Reply::Taken, 1), (refused, 1), (Reply::Again, 1), (refused, 1), (Reply::Taken, 2)]);
+    let (refused, again) = (Reply::Refused(Refusal::Record), Reply::Again(None));
+    let replies = [(Reply::Taken, 1), (refused, 1), (again, 1), (Reply::Value(1), 2), (refused, 2), (Reply::Again(Some(1)), 2), (Reply::Taken, 3), (again, 3)];
+    assert_eq!(whole.0, replies);
     assert_eq!((whole.1, whole.2, whole.3), ([1f64.to_bits(), 0], true, false));
     for size in 1..sent.len() {
         assert_eq!(fed(&sent, &[size]), whole, "pieces of {size}");

@@ -1,6 +1,7 @@
 //! Three qubits over a bad line, from Rust. Three records make a GHZ state; they arrive late, early, repeated and with junk
-//! between. Each is run once, in order, and the state is bit for bit what the records give when nothing goes wrong.
-use gate_bench::{environment_is_default, write_record, Gate, Record, Reply, Session, RECORD_MOST};
+//! between. Each is run once, in order, and the state is bit for bit what the records give when nothing goes wrong. A fourth
+//! measures; its answer is lost, and its repeat tells the outcome again.
+use gate_bench::{environment_is_default, write_record, Forced, Gate, Record, Reply, Session, RECORD_MOST};
 use std::process::ExitCode;
 
 const QUBITS: u32 = 3;
@@ -27,7 +28,8 @@ impl State {
     fn arrive(&mut self, what: &str, bytes: &[u8]) {
         let said = match self.deliver(bytes) {
             Reply::Taken => "TAKEN".to_string(),
-            Reply::Again => "AGAIN".to_string(),
+            Reply::Again(None) => "AGAIN".to_string(),
+            Reply::Again(Some(value)) => format!("AGAIN VALUE {value}"),
             Reply::Value(value) => format!("VALUE {value}"),
             Reply::Refused(refusal) => format!("REFUSED {}", refusal.number()),
         };
@@ -53,6 +55,7 @@ fn main() -> ExitCode {
     let h = bytes(OWN, 0, Gate::H(0, 0));
     let x1 = bytes(OWN, 1, Gate::X(1, 1));
     let x2 = bytes(OWN, 2, Gate::X(2, 2));
+    let m = bytes(OWN, 3, Gate::Measure(2, Forced { outcome: 1, reset: 0 }));
     let other = bytes(OWN + 1, 0, Gate::X(0, 0));
 
     let mut bad = State::start();
@@ -70,12 +73,16 @@ fn main() -> ExitCode {
     for (i, (re, im)) in bad.reals.iter().zip(&bad.imags).enumerate() {
         println!("A {i} {re:.6} {:016x} {im:.6} {:016x}", re.to_bits(), im.to_bits());
     }
+    bad.arrive("record 3: 2 measured, 1 forced", &m);
+    bad.arrive("record 3 again, the answer lost", &m);
+    bad.arrive("record 2 once more", &x2);
+    println!("the value that the session keeps: {}", bad.session.value().expect("the last record measured"));
 
     let mut good = State::start();
-    for record in [&h, &x1, &x2] {
+    for record in [&h, &x1, &x2, &m] {
         good.deliver(record);
     }
-    let same = good.bits() == bad.bits();
+    let same = good.session == bad.session && good.bits() == bad.bits();
     println!("the same records, once each and in order: {}", if same { "the same bits" } else { "OTHER BITS" });
     if same {
         ExitCode::SUCCESS
