@@ -1,5 +1,5 @@
 -- How an answer stands in one number: the low byte is a refusal's number or a value, and what stands above it says which. Definitions only. Assumes nothing.
-use Prim.Native.Nat.{ℕ, zero, suc, _+_, _%_, _<_}
+use Prim.Native.Nat.{ℕ, _+_, _<_}
 use mathlib.Core.Option.{Option, some, none}
 use mathlib.Core.Path.{_≡_}
 use Rattle.book.specs.Answers.{Said, taken, value, refused, Replied, again, said, replies}
@@ -31,14 +31,3 @@ Byte (Says x) = Unit
 -- no two replies have one number; a call's answers are among the replies
 abbrev pub TellsApart : Type 0
 TellsApart = (x y : Reply) → Byte x → Byte y → repliedNumber (replies x) ≡ repliedNumber (replies y) → x ≡ y
-
--- ---- a value or none, as a word that a caller keeps: 0 for none, v + 1 for a value v
-
-abbrev pub valueWord : Option ℕ → ℕ
-valueWord none = 0
-valueWord (some v) = v + 1
-
--- any word is one of these: of a value it has the low byte
-abbrev pub valueIn : ℕ → Option ℕ
-valueIn zero = none
-valueIn (suc k) = some (k % 256)

@@ -1,12 +1,12 @@
 // An answer as one number, laid out for all that is to come: the low byte is a refusal's number or a value, and what stands above it says which.
-// 0 taken, 1 to 255 a refusal, 256 AGAIN, 512 + v an AGAIN that tells the value v, 768 + v a value v. And a value or none as a word that a caller keeps.
+// 0 taken, 1 to 255 a refusal, 256 AGAIN, 512 + v an AGAIN that tells the value v, 768 + v a value v.
 use book::Answer;
 use book::Refusal;
 use book::Reply;
 use book::ValueOrNone;
 ghost use mathlib.Core.Path.{_≡_};
 ghost use Rattle.book.specs.Answers.{numberOf, says, valueOrNone, replies};
-ghost use Rattle.answers.specs.Told.{saidNumber, againNumber, repliedNumber, valueWord, valueIn};
+ghost use Rattle.answers.specs.Told.{saidNumber, againNumber, repliedNumber};
 
 pub const TAKEN: u32 = 0;
 
@@ -64,24 +64,4 @@ pub fn tell_reply(reply: Reply) -> u32
         Reply::Again(told) => tell_again(told),
         Reply::Said(answer) => tell(answer),
     }
-}
-
-// The word of a value, or of none.
-pub fn word_of(value: ValueOrNone) -> u32
-    ensures { λ r. ⌜ r ≡ valueWord (valueOrNone value) ⌝ }
-{
-    match value {
-        ValueOrNone::None => 0,
-        ValueOrNone::Value(v) => v as u32 + 1,
-    }
-}
-
-// The value that a word is, whatever the word.
-pub fn value_in(word: u32) -> ValueOrNone
-    ensures { λ r. ⌜ valueOrNone r ≡ valueIn word ⌝ }
-{
-    if word == 0 {
-        return ValueOrNone::None;
-    }
-    ValueOrNone::Value(((word - 1) % 256) as u8)
 }

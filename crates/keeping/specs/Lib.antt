@@ -1,0 +1,2 @@
+-- The session in eight words.
+pub mod Kept
