@@ -77,7 +77,8 @@ impl Session {
     {
         let count = counted.count;
         let reply = counted.reply;
-        let next = Session::resume(self.n, self.number, count, counted.value);
+        let value = counted.value;
+        let next = Session::resume(self.n, self.number, count, value);
         Delivered { next, reply, count }
     }
 
@@ -86,7 +87,8 @@ impl Session {
         ensures { λ r. ⌜ Delivers (unsized (meant self) (before reals imags) (replies reply)) r (before reals imags) ⌝ }
     {
         let size = judging::size(reals, imags, self.n);
-        self.told(counting::passed(self.count, self.value, size, reply))
+        let value = self.value;
+        self.told(counting::passed(self.count, value, size, reply))
     }
 
     // Only the next record goes on to its gate, whose own tests begin with 1 and 2: so a delivery is judged once.
@@ -96,11 +98,12 @@ impl Session {
         let Read::Record(it) = reader::read_record(bytes) else {
             return self.passed(Reply::Said(Answer::Refused(Refusal::Record)), reals, imags);
         };
-        match stand(self.number, self.count, self.value, it) {
+        let value = self.value;
+        match stand(self.number, self.count, value, it) {
             Standing::Next(next) => {
                 let gate = it.gate;
                 let answer = act(self.n, gate, reals, imags);
-                self.told(counting::ran(self.count, self.value, next, answer))
+                self.told(counting::ran(self.count, value, next, answer))
             }
             Standing::Answered(reply) => self.passed(reply, reals, imags),
         }

@@ -4,8 +4,6 @@ use borrow.Author.Needs.{needs}
 use Rattle.book.proofs.Refusals.{too-small, too-large, right-size}
 use Rattle.book.specs.Answers.{gives}
 use Rattle.book.specs.Kernels.{mostQubits}
-use Rattle.sessions.specs.Deliveries.{meant}
-use Rattle.sessions.specs.declared.Session.{Session}
 use Rattle.sessions.proofs.Session.start.Statement.{statement}
 use Rattle.sessions.proofs.Session.start.Tie as tie
 
@@ -16,4 +14,4 @@ start-spec =
     (λ c. rw (too-small mostQubits _ (c .if1 .taken)))
     (λ c. rw (too-large mostQubits _ (c .before .if1 .left) (c .if2 .taken)))
     (λ c κs. search needs)
-    (λ c. rw (right-size mostQubits _ (c .before .before .if1 .left) (c .before .if2 .left)) (ap (λ (s : Session). gives (meant s)) (c .resume .ensures))))
+    (λ c. rw (right-size mostQubits _ (c .before .before .if1 .left) (c .before .if2 .left)) (ap gives (c .fresh .ensures))))
