@@ -43,7 +43,7 @@ struct Placed {
 pub fn start(n: u32, number: u32) -> Running
     ensures { λ r. ⌜ runOf r ≡ fresh n number ⌝ }
 {
-    let feed = Feed::start(Session::resume(n, number, 0));
+    let feed = Feed::start(Session::fresh(n, number));
     Running { feed, index: 0 }
 }
 

@@ -14,7 +14,9 @@ use Rattle.book.specs.Answers.{numberOf, replies}
 use Rattle.book.specs.declared.Refusal.{Refusal}
 use Rattle.book.specs.declared.Refusal.the-variants.{Size, Length, Qubit, Same, Form, Number, Chance, Record, Session, Early, Full, Room}
 use Rattle.book.specs.declared.Reply.{Reply}
-use Rattle.book.specs.declared.Reply.the-variants.{Taken, Value, Again, Refused}
+use Rattle.book.specs.declared.Answer.the-variants.{Taken, Value, Refused}
+use Rattle.book.specs.declared.Reply.the-variants.{Again, Said}
+use Rattle.book.specs.declared.ValueOrNone.the-variants.{None, Value as ValueIs}
 use Rattle.feeding.specs.Feeding.{toldOf, Filled}
 use Rattle.feeding.specs.declared.Told.{Told}
 use Rattle.feeding.specs.declared.Told.the-variants.{Reply as Reply′}
@@ -38,10 +40,11 @@ low Room = omega arith
 
 -- a value is a byte, as the reply that holds it says
 small : (x : Reply) (vs : List Val) → Is Replies.the-row x vs → repliedNumber (replies x) < 1024
-small Taken vs is = omega arith
-small (Value v) vs is = let h = owed Replies.the-type the-laws (Value v) vs is in omega (arith, h .0)
-small Again vs is = omega arith
-small (Refused r) vs is = omega (arith, low r)
+small (Again None) vs is = omega arith
+small (Again (ValueIs v)) vs is = let h = owed Replies.the-type the-laws (Again (ValueIs v)) vs is in omega (arith, h .0)
+small (Said Taken) vs is = omega arith
+small (Said (Value v)) vs is = let h = owed Replies.the-type the-laws (Said (Value v)) vs is in omega (arith, h .0)
+small (Said (Refused r)) vs is = omega (arith, low r)
 
 -- `k` is the place where a reply was told
 
