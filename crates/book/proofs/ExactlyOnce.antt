@@ -278,33 +278,35 @@ exactly-once n own b rs g ds bytes all one =
 
 -- ---- a delivery keeps n and the session's number, and all of the session where the count stays
 
-pub record Own (s : Session) (d : Delivery) : Type 0 where
-  pub n : d .next .n ≡ s .n
-  pub number : d .next .number ≡ s .number
-  pub unmoved : d .next .count ≡ s .count → d .next ≡ s
+pub record Own (s s′ : Session) : Type 0 where
+  pub n : s′ .n ≡ s .n
+  pub number : s′ .number ≡ s .number
+  pub unmoved : s′ .count ≡ s .count → s′ ≡ s
+
+pub same-own : (s : Session) → Own s s
+same-own s = record { n = refl; number = refl; unmoved = λ e. refl }
 
 module _ (s : Session) (b : Buffers) (bytes : List ℕ) where
-  kept-own : (x : Replied) → Own s (kept s b x)
-  kept-own x = record { n = refl; number = refl; unmoved = λ e. refl }
+  counted-own : (t : Bool) (v : Option ℕ) (x : Replied) (left : Buffers)
+      → Own s (cond t (record { next = raised s bytes v; says = x; left = left }) (kept s b x) .next)
+  counted-own true v x left = record { n = refl; number = refl; unmoved = λ e. absurd (omega arith) }
+  counted-own false v x left = same-own s
 
-  counted-own : (t : Bool) (x y : Delivery) → Own s x → Own s y → Own s (cond t x y)
-  counted-own true x y p q = p
-  counted-own false x y p q = q
-
-  record-own : (r : Record) (x : Option Replied) → Own s (takeRecord s b bytes r x)
-  record-own r (some x) = kept-own x
+  record-own : (r : Record) (x : Option Replied) → Own s (takeRecord s b bytes r x .next)
+  record-own r (some x) = same-own s
   record-own r none =
-      let o = outcomeOf [] b (callOf (s .n) (r .gate) b) in
-      counted-own (accepts (o .says)) _ _ (record { n = refl; number = refl; unmoved = λ e. absurd (omega arith) }) (kept-own (said (o .says)))
+      let c = callOf (s .n) (r .gate) b in
+      let o = outcomeOf [] b c in
+      counted-own (accepts (o .says)) (c .answer) (said (o .says)) (o .left)
 
-  read-own : (x : Option Record) → Own s (takeRead s b bytes x)
+  read-own : (x : Option Record) → Own s (takeRead s b bytes x .next)
   read-own (some r) = record-own r (standing s r)
-  read-own none = kept-own (said (refused 8))
+  read-own none = same-own s
 
-  sized-own : (k : ℕ) → Own s (takeSized s b bytes k)
+  sized-own : (k : ℕ) → Own s (takeSized s b bytes k .next)
   sized-own zero = read-own (readRecord bytes)
-  sized-own (suc k) = kept-own (said (refused (suc k)))
+  sized-own (suc k) = same-own s
 
-pub keeps-its-own : (s : Session) (b : Buffers) (bytes : List ℕ) → Own s (deliver s b bytes)
+pub keeps-its-own : (s : Session) (b : Buffers) (bytes : List ℕ) → Own s (deliver s b bytes .next)
 unfolding deliver
 keeps-its-own s b bytes = sized-own s b bytes (first (sizeTests (s .n) b))

@@ -13,14 +13,20 @@ use Rattle.book.specs.State.{amplitude}
 use Rattle.book.specs.declared.Angles.{Angles}
 use Rattle.book.specs.declared.Answer.{Answer}
 use Rattle.book.specs.declared.Matrix.{Matrix}
-use Rattle.feeding.specs.Feeding.{Form, Takes}
+use Rattle.feeding.specs.Feeding.{Form, form, Takes}
 use Rattle.gathering.specs.Gathering.{mostHeld}
+use Rattle.keeping.specs.Kept.{sessionIn, freshWords, kept}
 use Rattle.once.specs.Answered.{Answered}
 
 -- a session that starts, or refusal 1
 abbrev pub startOf : Option Book.Session → ℕ
 startOf (some s) = 0
 startOf none = 1
+
+-- The whole contract of a start: the number returned, and every word: all eight are written, or none.
+pub record TellsStart (n own : ℕ) (w : List ℕ) (code : ℕ) (w′ : List ℕ) : Type 0 where
+  pub answers : code ≡ startOf (Book.start n own)
+  pub words : w′ ≡ cond (eqb code 0) (freshWords n own) w
 
 -- The whole contract of a call on two buffers: the number is that of an answer that the outcome allows. So it is the outcome's own (TellsPlainly).
 pub record Tells (o : Outcome) (code : ℕ) (after : Buffers) : Type 0 where
@@ -31,22 +37,41 @@ pub record Tells (o : Outcome) (code : ℕ) (after : Buffers) : Type 0 where
 abbrev pub TellsPlainly : Type 0
 TellsPlainly = (o : Outcome) (code : ℕ) (after : Buffers) → Tells o code after → (code ≡ saidNumber (o .says)) × (after ≡ o .left)
 
--- The whole contract of a delivery: the number returned, the count written back, and every place of both buffers.
-pub record TellsDelivery (d : Book.Delivery) (code count : ℕ) (after : Buffers) : Type 0 where
-  pub answers : code ≡ repliedNumber (d .says)
-  pub counts : count ≡ d .next .count
-  pub leaves : after ≡ d .left
+-- words in which a session stays as it is, or becomes this one
+abbrev pub becoming : List ℕ → Book.Session → List ℕ
+becoming w s = kept w (s .count) (s .value)
+
+-- The whole contract of a delivery to the session that eight words are: the number returned, the session after it and the words it is in, and every
+-- place of both buffers.
+pub record TellsDelivery (w : List ℕ) (b : Buffers) (bytes : List ℕ) (code : ℕ) (w′ : List ℕ) (after : Buffers) : Type 0 where
+  pub answers : code ≡ repliedNumber (Book.deliver (sessionIn w) b bytes .says)
+  pub session : sessionIn w′ ≡ Book.deliver (sessionIn w) b bytes .next
+  pub words : w′ ≡ becoming w (sessionIn w′)
+  pub leaves : after ≡ Book.deliver (sessionIn w) b bytes .left
 
 -- what a piece is answered: what its delivery says; 1024 where no frame is complete, 1025 behind a wrong tag
 abbrev pub fedNumber : List Answered → ℕ → ℕ
 fedNumber [] kept = cond (eqb kept mostHeld) 1025 1024
 fedNumber (a ∷ more) kept = repliedNumber (a .says)
 
--- The whole contract of a piece: the number returned, how many bytes were used, what the caller keeps, and every place of both buffers.
-pub record TellsFeed (f : Form) (b : Buffers) (piece : List ℕ) (code used : ℕ) (f′ : Form) (b′ : Buffers) : Type 0 where
+-- what the caller keeps between two pieces: the session's words, and what is left of the stream
+pub record Words : Type 0 where
+  pub session : List ℕ
+  pub kept : ℕ
+  pub held : List ℕ
+
+abbrev pub words : List ℕ → ℕ → List ℕ → Words
+words session kept held = record { session = session; kept = kept; held = held }
+
+abbrev pub formIn : Words → Form
+formIn x = form (sessionIn (x .session)) (x .kept) (x .held)
+
+-- The whole contract of a piece: the number returned, how many bytes were used, all that the caller keeps, and every place of both buffers.
+pub record TellsFeed (x : Words) (b : Buffers) (piece : List ℕ) (code used : ℕ) (x′ : Words) (b′ : Buffers) : Type 0 where
   pub told : List Answered
-  pub takes : Takes f b piece used told f′ b′
-  pub tells : code ≡ fedNumber told (f′ .kept)
+  pub takes : Takes (formIn x) b piece used told (formIn x′) b′
+  pub words : x′ .session ≡ becoming (x .session) (sessionIn (x′ .session))
+  pub tells : code ≡ fedNumber told (x′ .kept)
 
 -- a gate's four entries, row by row
 abbrev pub fourEntries : Float → Float → Float → Float → Float → Float → Float → Float → Matrix

@@ -1,15 +1,15 @@
-// A stream of frames in pieces. What is kept between two of them is the caller's: a number, and 97 bytes.
+// A stream of frames in pieces. What is kept between two of them is the caller's: the session, a number, and 97 bytes.
+use crate::deliveries::session_in;
 use answers::tell_reply;
 use feeding::Told;
 use feeding::take_piece;
 use gathering::STOPPED;
-use sessions::Session;
+use keeping::keep;
 ghost use mathlib.Core.List.{[]};
 ghost use mathlib.Core.Path.{_≡_};
 ghost use Rattle.book.specs.Lent.{before, after};
-ghost use Rattle.book.specs.Sessions as Book;
-ghost use Rattle.feeding.specs.Feeding.{form, toldOf};
-ghost use Rattle.c_api.specs.Tells.{fedNumber, TellsFeed};
+ghost use Rattle.feeding.specs.Feeding.{toldOf};
+ghost use Rattle.c_api.specs.Tells.{fedNumber, words, TellsFeed};
 
 // No frame is complete, and behind a wrong tag none will be.
 const WAITING: u32 = 1024;
@@ -38,9 +38,7 @@ fn tell_told(told: Told, kept: u32, count: u16) -> u32
 // The piece up to the end of the first frame that it completes.
 #[no_mangle]
 pub extern "C" fn gate_bench_feed(
-    n: u32,
-    number: u32,
-    count: &mut u16,
+    session: &mut [u32; 8],
     kept: &mut u32,
     held: &mut [u8; 97],
     piece: &[u8],
@@ -48,15 +46,14 @@ pub extern "C" fn gate_bench_feed(
     reals: &mut [f64],
     imags: &mut [f64],
 ) -> u32
-    ensures { λ r. ⌜ TellsFeed (form (Book.session n number (now (count .entry))) (now (kept .entry)) (now (held .entry))) (before reals imags)
-        (now (piece .entry)) r (now (used .exit))
-        (form (Book.session n number (now (count .exit))) (now (kept .exit)) (now (held .exit))) (after reals imags) ⌝ }
+    ensures { λ r. ⌜ TellsFeed (words (now (session .entry)) (now (kept .entry)) (now (held .entry))) (before reals imags) (now (piece .entry))
+        r (now (used .exit)) (words (now (session .exit)) (now (kept .exit)) (now (held .exit))) (after reals imags) ⌝ }
 {
-    let session = Session::resume(n, number, *count);
-    let fed = take_piece(session, *kept, held, piece, reals, imags);
+    let fed = take_piece(session_in(session), *kept, held, piece, reals, imags);
     let next = fed.session;
+    let value = next.value;
     let told = fed.told;
-    *count = next.count;
+    keep(session, next.count, value);
     *kept = fed.kept;
     *used = fed.used;
     tell_told(told, fed.kept, next.count)

@@ -2,7 +2,9 @@
 use book::Answer;
 use book::Reply;
 use book::ValueOrNone;
-ghost use Rattle.counting.specs.Counts.{Counts, Passes};
+ghost use mathlib.Core.Path.{_≡_};
+ghost use Rattle.book.specs.Answers.{says, replies};
+ghost use Rattle.counting.specs.Counts.{Counts, behind, Passes};
 
 // The count after a record, the value that is kept, and the record's reply.
 pub struct Counted {
@@ -35,25 +37,25 @@ pub fn ran(count: u16, value: ValueOrNone, next: u16, answer: Answer) -> Counted
     }
 }
 
-// A record that was not run leaves both; what its size is refused for comes before its reply.
+// What the size is refused for comes before a reply.
+fn behind(size: Answer, reply: Reply) -> Reply
+    ensures { λ r. ⌜ replies r ≡ behind (says size) (replies reply) ⌝ }
+{
+    match size {
+        Answer::Taken => reply,
+        Answer::Value(_) => reply,
+        Answer::Refused(_) => Reply::Said(size),
+    }
+}
+
+// A record that was not run leaves both.
 pub fn passed(count: u16, value: ValueOrNone, size: Answer, reply: Reply) -> Counted
     ensures { λ r. ⌜ Passes count value size reply r ⌝ }
 {
-    match size {
-        Answer::Taken => Counted {
-            count,
-            value,
-            reply,
-        },
-        Answer::Value(_) => Counted {
-            count,
-            value,
-            reply,
-        },
-        Answer::Refused(_) => Counted {
-            count,
-            value,
-            reply: Reply::Said(size),
-        },
+    let reply = behind(size, reply);
+    Counted {
+        count,
+        value,
+        reply,
     }
 }

@@ -1,4 +1,7 @@
 // Whether two runs of one stream came to the same, bit for bit.
+use answers::tell_reply;
+use book::Reply;
+use book::ValueOrNone;
 use feeding::Feed;
 use gathering::STOPPED;
 ghost use Prim.Native.Nat.{_≤_};
@@ -39,9 +42,19 @@ fn held_differ(a: &[u8; 97], b: &[u8; 97], kept: u32) -> bool {
     bits != 0
 }
 
+// By what a repeat would be told.
+fn values_differ(a: ValueOrNone, b: ValueOrNone) -> bool {
+    tell_reply(Reply::Again(a)) != tell_reply(Reply::Again(b))
+}
+
 // Whether two forms differ to whoever goes on with them.
 pub(crate) fn forms_differ(a: Feed, b: Feed) -> bool {
     let s = a.session;
     let t = b.session;
-    (s.count != t.count) | (a.kept != b.kept) | held_differ(&a.held, &b.held, a.kept)
+    let v = s.value;
+    let w = t.value;
+    (s.count != t.count)
+        | values_differ(v, w)
+        | (a.kept != b.kept)
+        | held_differ(&a.held, &b.held, a.kept)
 }

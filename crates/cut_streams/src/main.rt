@@ -39,7 +39,7 @@ fn run_input(name: &[u8], input: &[u8]) {
     };
     report(
         name,
-        Session::resume(n, number, 0),
+        Session::fresh(n, number),
         headers::behind_header(input),
     );
 }

@@ -36,6 +36,7 @@ pub fn stand(own: u32, count: u16, value: ValueOrNone, it: Record) -> Standing
     ensures { λ r. ⌜ Stood own count value it r ⌝ }
 {
     let at = it.number;
+    let told = told_again(count, value, at);
     if it.session != own {
         return Standing::Answered(Reply::Said(Answer::Refused(Refusal::Session)));
     }
@@ -43,7 +44,7 @@ pub fn stand(own: u32, count: u16, value: ValueOrNone, it: Record) -> Standing
         return Standing::Answered(Reply::Said(Answer::Refused(Refusal::Full)));
     }
     if at < count {
-        return Standing::Answered(Reply::Again(told_again(count, value, at)));
+        return Standing::Answered(Reply::Again(told));
     }
     if count < at {
         return Standing::Answered(Reply::Said(Answer::Refused(Refusal::Early)));

@@ -8,9 +8,9 @@ pub stand-spec : {M : Type 1} → statement M
 stand-spec =
     tie.close
     (tie.spec
-    (λ c. search standings)
-    (λ c. search standings)
     (λ c κs. search needs)
+    (λ c. search standings)
+    (λ c. search standings)
     (λ c. search standings)
     (λ c. search standings)
     (λ c. search needs)

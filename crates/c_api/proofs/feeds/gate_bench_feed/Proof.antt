@@ -1,6 +1,6 @@
 -- `c_api::feeds::gate_bench_feed` writes back what the form keeps, and tells what was told. Assumes nothing.
 use borrow.Author.Needs.{needs}
-use Rattle.c_api.proofs.Pieces.{tells-fed}
+use Rattle.c_api.proofs.Kept.{tells-fed}
 use Rattle.c_api.proofs.feeds.gate_bench_feed.Statement.{statement}
 use Rattle.c_api.proofs.feeds.gate_bench_feed.Tie as tie
 
