@@ -1,9 +1,8 @@
 -- The caller's words behind a delivery and behind a piece are the book's session. Two results that the contracts allow are the same. Assumes nothing.
-use Prim.Native.Nat.{ℕ, _≤_}
+use Prim.Native.Nat.{ℕ}
 use mathlib.Core.List.{List}
 use mathlib.Core.Option.{Option, some, none}
 use mathlib.Core.Path.{_≡_, sym, ap, ap₂, _∙_, subst}
-use lib.ListN.{length}
 use Rattle.answers.specs.Told.{repliedNumber}
 use Rattle.book.proofs.ExactlyOnce.{Own, same-own, keeps-its-own}
 use Rattle.book.specs.Answers.{valueOrNone, replies, Buffers}
@@ -16,29 +15,27 @@ use Rattle.keeping.proofs.Laws.{session-kept}
 use Rattle.keeping.specs.Kept.{sessionIn, Keeps}
 use Rattle.once.specs.AllOnce.{bench}
 use Rattle.once.specs.Answered.{Answered}
-use Rattle.sessions.specs.Deliveries.{meant, Delivers}
+use Rattle.sessions.specs.Deliveries.{Delivers}
 use Rattle.sessions.specs.declared.Delivered.{Delivered}
-use Rattle.sessions.specs.declared.Session.{Session}
 use Rattle.c_api.specs.Tells.{becoming, TellsDelivery, fedNumber, Words, words, formIn, TellsFeed}
 
-module _ {w w′ : List ℕ} (eight : 4 ≤ length w) {next : Session} (k : Keeps w (next .count) (valueOrNone (next .value)) w′)
-    (own : Own (sessionIn w) (meant next)) where
-  session-is : sessionIn w′ ≡ meant next
-  session-is = session-kept eight k own
+module _ {w w′ : List ℕ} {s : Book.Session} (k : Keeps w (s .count) (s .value) w′) (own : Own (sessionIn w) s) where
+  session-is : sessionIn w′ ≡ s
+  session-is = session-kept k own
 
   words-are : w′ ≡ becoming w (sessionIn w′)
   words-are = k .words ∙ ap (becoming w) (sym session-is)
 
 -- a delivery
-pub tells : {w w′ bytes : List ℕ} {b b′ : Buffers} {a : Delivered} {code : ℕ} → 4 ≤ length w
+pub tells : {w w′ bytes : List ℕ} {b b′ : Buffers} {a : Delivered} {code : ℕ}
     → Delivers (deliver (sessionIn w) b bytes) a b′ → Keeps w (a .next .count) (valueOrNone (a .next .value)) w′
     → code ≡ repliedNumber (replies (a .reply)) → TellsDelivery w b bytes code w′ b′
-tells {w} {w′} {bytes} {b} {b′} {a} eight x k e =
+tells {w} {w′} {bytes} {b} {b′} {a} x k e =
     let own = subst (Own (sessionIn w)) (sym (x .next)) (keeps-its-own (sessionIn w) b bytes) in
     record {
       answers = e ∙ ap repliedNumber (x .reply);
-      session = session-is eight k own ∙ x .next;
-      words = words-are eight k own;
+      session = session-is k own ∙ x .next;
+      words = words-are k own;
       leaves = x .leaves;
     }
 
@@ -48,13 +45,12 @@ due-own x none = same-own (x .session)
 due-own x (some bytes) = keeps-its-own (x .session) (x .state) bytes
 
 -- a piece
-pub tells-fed : {w w′ held held′ piece : List ℕ} {kept kept′ used code : ℕ} {b b′ : Buffers} {next : Session} {told : List Answered} → 4 ≤ length w
-    → Takes (form (sessionIn w) kept held) b piece used told (form (meant next) kept′ held′) b′
-    → Keeps w (next .count) (valueOrNone (next .value)) w′ → code ≡ fedNumber told kept′
+pub tells-fed : {w w′ held held′ piece : List ℕ} {kept kept′ used code : ℕ} {b b′ : Buffers} {s : Book.Session} {told : List Answered}
+    → Takes (form (sessionIn w) kept held) b piece used told (form s kept′ held′) b′ → Keeps w (s .count) (s .value) w′ → code ≡ fedNumber told kept′
     → TellsFeed (words w kept held) b piece code used (words w′ kept′ held′) b′
-tells-fed {w} {w′} {held} {held′} {piece} {kept} {kept′} {b = b} {b′} {next} {told} eight t k e =
+tells-fed {w} {w′} {held} {held′} {piece} {kept} {kept′} {b = b} {b′} {s} {told} t k e =
     let due = step (restOf held kept) piece .due in
-    let is : meant next ≡ deliverAll (bench (sessionIn w) b) (listOf due) .session = ap (λ (x : Bench). x .session) (t .run) in
+    let is : s ≡ deliverAll (bench (sessionIn w) b) (listOf due) .session = ap (λ (x : Bench). x .session) (t .run) in
     let own = subst (Own (sessionIn w)) (sym is) (due-own (bench (sessionIn w) b) due) in
     record {
       told = told;
@@ -62,10 +58,10 @@ tells-fed {w} {w′} {held} {held′} {piece} {kept} {kept′} {b = b} {b′} {n
         used = t .used;
         kept = t .kept;
         held = t .held;
-        run = ap (λ (x : Book.Session). bench x b′) (session-is eight k own) ∙ t .run;
+        run = ap (λ (x : Book.Session). bench x b′) (session-is k own) ∙ t .run;
         told = t .told;
       };
-      words = words-are eight k own;
+      words = words-are k own;
       tells = e;
     }
 

@@ -11,9 +11,9 @@ use Rattle.book.proofs.ExactlyOnce.{Own}
 use Rattle.book.specs.Sessions.{Session, fresh}
 use Rattle.keeping.specs.Kept.{valueWord, sessionIn, freshWords, Keeps}
 
-pub session-kept : {w w′ : List ℕ} {s : Session} → 4 ≤ length w → Keeps w (s .count) (s .value) w′ → Own (sessionIn w) s → sessionIn w′ ≡ s
-session-kept {w} {w′} {s} h k own =
-    subst (λ (x : List ℕ). sessionIn x ≡ s) (sym (k .words)) (by w (eqb (sessionIn w .count) (s .count)) refl h own)
+pub session-kept : {w w′ : List ℕ} {s : Session} → Keeps w (s .count) (s .value) w′ → Own (sessionIn w) s → sessionIn w′ ≡ s
+session-kept {w} {w′} {s} k own =
+    subst (λ (x : List ℕ). sessionIn x ≡ s) (sym (k .words)) (by w (eqb (sessionIn w .count) (s .count)) refl (k .there) own)
   where
     count : s .count % 65536 ≡ s .count
     count = omega (arith, k .small)

@@ -1,12 +1,12 @@
 -- A session in eight words, as a caller of the archive keeps it: n, its number, the count, the value, and four for requests to come.
 -- Definitions only. Assumes nothing.
-use Prim.Native.Nat.{ℕ, zero, suc, _%_, _<_}
+use Prim.Native.Nat.{ℕ, zero, suc, _%_, _≤_, _<_}
 use mathlib.Core.Bool.{cond}
 use mathlib.Core.List.{List, [], _∷_}
 use mathlib.Core.Option.{Option, some, none}
 use mathlib.Core.Path.{_≡_}
 use lib.Dec.{eqb}
-use lib.ListN.{getD, set}
+use lib.ListN.{length, getD, set}
 use Rattle.book.specs.Sessions.{Session}
 
 -- a value's word: 0 for none, v + 1 for a value v
@@ -26,17 +26,21 @@ sessionIn w = record { n = getD w 0 0; number = getD w 1 0; count = getD w 2 0 %
 abbrev pub freshWords : ℕ → ℕ → List ℕ
 freshWords n own = n ∷ own ∷ 0 ∷ 0 ∷ 0 ∷ 0 ∷ 0 ∷ 0 ∷ []
 
--- where the count moved, it and the value are written; else no word is
+-- where the count moved, it and the value's word are written; else no word is
+abbrev pub written : List ℕ → ℕ → ℕ → List ℕ
+written w count word = cond (eqb (sessionIn w .count) count) w (set (set w 2 count) 3 word)
+
 abbrev pub kept : List ℕ → ℕ → Option ℕ → List ℕ
-kept w count v = cond (eqb (sessionIn w .count) count) w (set (set w 2 count) 3 (valueWord v))
+kept w count v = written w count (valueWord v)
 
 -- a value that is a byte, as the code's is, can be read from its word
 pub record Worded (v : Option ℕ) (word : ℕ) : Type 0 where
   pub is : word ≡ valueWord v
   pub back : valueIn word ≡ v
 
--- What is kept after a delivery, from a count and a value that can be read from their words.
+-- What is kept after a delivery, in words that are there, from a count and a value that can be read from theirs.
 pub record Keeps (w : List ℕ) (count : ℕ) (v : Option ℕ) (w′ : List ℕ) : Type 0 where
   pub words : w′ ≡ kept w count v
+  pub there : 4 ≤ length w
   pub small : count < 65536
   pub back : valueIn (valueWord v) ≡ v

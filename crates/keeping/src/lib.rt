@@ -2,8 +2,10 @@
 // Any eight words are a session, and words that no delivery has to change stay as they are.
 use book::ValueOrNone;
 ghost use mathlib.Core.Path.{_≡_};
+ghost use Prim.Native.Nat.{_≤_};
+ghost use lib.ListN.{length};
 ghost use Rattle.book.specs.Answers.{valueOrNone};
-ghost use Rattle.keeping.specs.Kept.{valueWord, valueIn, sessionIn, freshWords, Worded, Keeps};
+ghost use Rattle.keeping.specs.Kept.{valueIn, sessionIn, freshWords, written, Worded, Keeps};
 
 // A value's word: 0 for none, v + 1 for a value v.
 fn word_of(value: ValueOrNone) -> u32
@@ -44,13 +46,21 @@ pub fn begin(words: &mut [u32; 8], n: u32, number: u32)
     *words = [n, number, 0, 0, 0, 0, 0, 0];
 }
 
-// What a delivery came to: where the count moved, it and the value are written.
-pub fn keep(words: &mut [u32; 8], count: u16, value: ValueOrNone)
-    ensures { λ _. ⌜ Keeps (now (words .entry)) count (valueOrNone value) (now (words .exit)) ⌝ }
+// Where the count moved, it and the value's word are written.
+fn write(words: &mut [u32], count: u16, word: u32)
+    requires { ⌜ 4 ≤ length (now words) ⌝ }
+    ensures { λ _. ⌜ now (words .exit) ≡ written (now (words .entry)) count word ⌝ }
 {
-    let word = word_of(value);
     if words[2] % 65536 != count as u32 {
         words[2] = count as u32;
         words[3] = word;
     }
+}
+
+// What a delivery came to.
+pub fn keep(words: &mut [u32; 8], count: u16, value: ValueOrNone)
+    ensures { λ _. ⌜ Keeps (now (words .entry)) count (valueOrNone value) (now (words .exit)) ⌝ }
+{
+    let word = word_of(value);
+    write(words, count, word)
 }

@@ -7,11 +7,20 @@ use Rattle.c_api.proofs.deliveries.gate_bench_deliver.Tie as tie
 -- by `search`, so that a contract that asks less is proved too, and is missed in `deliver_all`
 returns : tie.Need-returns
 returns c =
-    let run = c .before .before .before .before .before in
-    let delivers = rw (run .before .before .before .resume .ensures) at (run .deliver .ensures) in
-    search (tells delivers (c .tell-reply .ensures))
+    let kept = c .before in
+    let run = kept .before .before .before .before .before .before .before in
+    let resumed = run .before .before .before in
+    let delivers = rw (resumed .session-in .ensures) at (run .deliver .ensures) in
+    search (tells delivers (kept .keep .ensures) (c .tell-reply .ensures))
 
 pub gate-bench-deliver-spec : {M : Type 1} → statement M
 gate-bench-deliver-spec =
     tie.close
-    (tie.spec (λ c κs. search needs) (λ c κs. search needs) (λ c κs. search needs) (λ c. search needs) (λ c. search needs) returns)
+    (tie.spec
+    (λ c κs. search needs)
+    (λ c κs. search needs)
+    (λ c κs. search needs)
+    (λ c κs. search needs)
+    (λ c. search needs)
+    (λ c. search needs)
+    returns)

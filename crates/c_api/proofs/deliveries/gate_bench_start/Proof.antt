@@ -5,10 +5,18 @@ use Rattle.c_api.proofs.deliveries.gate_bench_start.Statement.{statemen
 use Rattle.c_api.proofs.deliveries.gate_bench_start.Tie as tie
 
 returns : tie.Need-returns
-returns c = ?
+returns c =
+    let told = c .before .before in
+    let started = told .before .before in
+    let a = started .before .args in
+    fresh (a .n) (a .number) (a .session .now) (started .start .ensures) (told .enum-told .given .1) (c .begin .ensures)
 
 returns-2 : tie.Need-returns-2
-returns-2 c = ?
+returns-2 c =
+    let refused = c .before .before in
+    let started = refused .before .before in
+    let a = started .before .args in
+    unstarted (a .n) (a .number) (a .session .now) (started .start .ensures) (refused .refusal .given .1) (c .number-of .ensures)
 
 pub gate-bench-start-spec : {M : Type 1} → statement M
 gate-bench-start-spec =

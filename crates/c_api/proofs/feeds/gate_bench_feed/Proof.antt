@@ -7,16 +7,17 @@ use Rattle.c_api.proofs.feeds.gate_bench_feed.Tie as tie
 -- by `search`, so that a contract that asks less is proved too, and is missed by those that use it
 returns : tie.Need-returns
 returns c =
-    let lent = c .before .before .before in
-    let fed = lent .before .before .before in
-    let taken = fed .before .before .before .before .before in
-    let takes = rw (taken .resume .ensures) at (fed .take-piece .ensures) in
-    search (tells-fed takes (c .tell-told .ensures))
+    let kept = c .before in
+    let fed = kept .before .before .before .before .before .before .before in
+    let resumed = fed .before .before .before .before .before in
+    let takes = rw (resumed .session-in .ensures) at (fed .take-piece .ensures) in
+    search (tells-fed takes (kept .keep .ensures) (c .tell-told .ensures))
 
 pub gate-bench-feed-spec : {M : Type 1} → statement M
 gate-bench-feed-spec =
     tie.close
     (tie.spec
+    (λ c κs. search needs)
     (λ c κs. search needs)
     (λ c κs. search needs)
     (λ c κs. search needs)
