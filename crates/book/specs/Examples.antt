@@ -140,14 +140,14 @@ twelve =
 -- ---- of document 02
 
 -- Request 03: 1, 2 is off length 1, and outcome 1 is scaled by its own half; a half of zeros is refused with 7.
--- Request 04: a measurement that comes again tells its outcome, and behind an X no more; a flip that did not run tells 0.
+-- Request 04: a measurement that comes again tells its outcome, behind an X no more, and behind a flip that did not run, which tells 0, neither.
 unfoldable pub since : List Example
 unfolding ofInt ofBits toBits
 since =
     reals (forced 1 (real (1 ∷ 2 ∷ []))) is bits (map whole (0 ∷ 1 ∷ []))
     ∷ refusal (forced 1 halfOfZeros .says) is (7 ∷ [])
     ∷ toldValues (fresh 1 7) (real (0 ∷ 1 ∷ []))
-    (measuring 0 ∷ measuring 0 ∷ xNumbered 1 ∷ measuring 0 ∷ xNumbered 1 ∷ notFlipping 2 ∷ notFlipping 2 ∷ []) is (1 ∷ 0 ∷ [])
+    (measuring 0 ∷ measuring 0 ∷ xNumbered 1 ∷ measuring 0 ∷ xNumbered 1 ∷ notFlipping 2 ∷ notFlipping 2 ∷ measuring 0 ∷ []) is (1 ∷ 0 ∷ [])
     ∷ []
 
 -- each example of a list holds

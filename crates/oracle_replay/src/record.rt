@@ -20,7 +20,7 @@ const SLOT: usize = 94;
 
 fn told(reply: Reply) -> u8 {
     match reply {
-        Reply::Again => REFUSED,
+        Reply::Again(_) => REFUSED,
         Reply::Said(answer) => match answer {
             Answer::Taken => 0,
             Answer::Value(v) => std::num::wrapping_add_u8(VALUE, v),
