@@ -161,7 +161,7 @@ module _ (n own : ℕ) (b₀ : Buffers) (rs : List Record) (g : Given n own b₀
         repeated : r .number < s .count → Holds (xs ++ (r ∷ [])) (d .next) (d .left)
         unfolding k
         repeated m =
-            let x = again (toldAgain s (r .number)) in
+            let x = again (toldAgain (s .count) (s .value) (r .number)) in
             stays (xs ++ (r ∷ [])) d x (answered (some x) (rw (theirs, not-full, lt-ltb (r .number) (s .count) m)))
             (not-next (λ e. omega arith))
 

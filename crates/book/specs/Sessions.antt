@@ -47,15 +47,15 @@ counted s b bytes v o =
     (kept s b (said (o .says)))
 
 -- AGAIN for number count-1, the last record taken, tells the value that is kept; for an older number none
-abbrev pub toldAgain : Session → ℕ → Option ℕ
-toldAgain s number = cond (eqb (number + 1) (s .count)) (s .value) none
+abbrev pub toldAgain : ℕ → Option ℕ → ℕ → Option ℕ
+toldAgain count v number = cond (eqb (number + 1) count) v none
 
 -- 9, 11; then a number below the count answers AGAIN, one above it 10, and only an equal one goes on
 abbrev pub standing : Session → Record → Option Replied
 standing s r =
     cond (not (eqb (r .session) (s .number))) (some (said (refused 9)))
     (cond (eqb (r .number) 65535) (some (said (refused 11)))
-    (cond (ltb (r .number) (s .count)) (some (again (toldAgain s (r .number))))
+    (cond (ltb (r .number) (s .count)) (some (again (toldAgain (s .count) (s .value) (r .number))))
     (cond (ltb (s .count) (r .number)) (some (said (refused 10))) none)))
 
 -- to the gate's own tests, 3 to 7

@@ -15,7 +15,7 @@ use Rattle.book.specs.declared.Answer.{Answer}
 use Rattle.book.specs.declared.Matrix.{Matrix}
 use Rattle.feeding.specs.Feeding.{Form, form, Takes}
 use Rattle.gathering.specs.Gathering.{mostHeld}
-use Rattle.keeping.specs.Kept.{sessionIn, freshWords, kept}
+use Rattle.keeping.specs.Kept.{sessionIn, freshWords, keptWords}
 use Rattle.once.specs.Answered.{Answered}
 
 -- a session that starts, or refusal 1
@@ -39,7 +39,7 @@ TellsPlainly = (o : Outcome) (code : ℕ) (after : Buffers) → Tells o code aft
 
 -- words in which a session stays as it is, or becomes this one
 abbrev pub becoming : List ℕ → Book.Session → List ℕ
-becoming w s = kept w (s .count) (s .value)
+becoming w s = keptWords w (s .count) (s .value)
 
 -- The whole contract of a delivery to the session that eight words are: the number returned, the session after it and the words it is in, and every
 -- place of both buffers.

@@ -30,8 +30,8 @@ freshWords n own = n ∷ own ∷ 0 ∷ 0 ∷ 0 ∷ 0 ∷ 0 ∷ 0 ∷ []
 abbrev pub written : List ℕ → ℕ → ℕ → List ℕ
 written w count word = cond (eqb (sessionIn w .count) count) w (set (set w 2 count) 3 word)
 
-abbrev pub kept : List ℕ → ℕ → Option ℕ → List ℕ
-kept w count v = written w count (valueWord v)
+abbrev pub keptWords : List ℕ → ℕ → Option ℕ → List ℕ
+keptWords w count v = written w count (valueWord v)
 
 -- a value that is a byte, as the code's is, can be read from its word
 pub record Worded (v : Option ℕ) (word : ℕ) : Type 0 where
@@ -40,7 +40,7 @@ pub record Worded (v : Option ℕ) (word : ℕ) : Type 0 where
 
 -- What is kept after a delivery, in words that are there, from a count and a value that can be read from theirs.
 pub record Keeps (w : List ℕ) (count : ℕ) (v : Option ℕ) (w′ : List ℕ) : Type 0 where
-  pub words : w′ ≡ kept w count v
+  pub words : w′ ≡ keptWords w count v
   pub there : 4 ≤ length w
   pub small : count < 65536
   pub back : valueIn (valueWord v) ≡ v

@@ -1,9 +1,7 @@
 -- Where a record stands, test by test: each test that applies, with those before it passed, gives the reply. Assumes nothing.
 use Prim.Native.Nat.{ℕ, _+_, _≤_, _<_}
-use mathlib.Core.Bool.{cond}
-use mathlib.Core.Option.{Option, some, none}
+use mathlib.Core.Option.{Option, some}
 use mathlib.Core.Path.{_≡_, refl, sym, ap, ap₂, _∙_}
-use lib.Dec.{eqb}
 use native.Mathlib.Omega.{arith}
 use borrow.Author.Tests.{lt-ltb, le-ltb, eq-eqb, ne-eqb}
 use Rattle.book.specs.Answers.{valueOrNone, again}
@@ -37,13 +35,12 @@ module _ (own count : ℕ) (v : ValueOrNone) (r : Record) where
         }
 
     module _ (room : r .number ≡ 65535 → ⊥) where
-      pub repeated : {t : ValueOrNone} → r .number < count → valueOrNone t ≡ cond (eqb (r .number + 1) count) (valueOrNone v) none
+      pub repeated : {t : ValueOrNone} → r .number < count → valueOrNone t ≡ toldAgain count (valueOrNone v) (r .number)
           → Stood own count v r (Answered (Again t))
       repeated {t} h told =
           record {
             is = λ s e f k.
-                let tells : valueOrNone t ≡ toldAgain s (r .number) =
-                told ∙ ap₂ (λ (m : ℕ) (w : Option ℕ). cond (eqb (r .number + 1) m) w none) (sym f) (sym k) in
+                let tells = told ∙ ap₂ (λ (m : ℕ) (w : Option ℕ). toldAgain m w (r .number)) (sym f) (sym k) in
                 rw (eq-eqb (r .session) (s .number) (theirs s e), ne-eqb (r .number) 65535 room, lt-ltb (r .number) (s .count) (omega (arith, f)))
                 (ap (λ (w : Option ℕ). some (again w)) tells);
             next = λ j e. no-next e;

@@ -4,12 +4,9 @@ use book::Record;
 use book::Refusal;
 use book::Reply;
 use book::ValueOrNone;
-ghost use mathlib.Core.Bool.{cond};
-ghost use mathlib.Core.Option.{none};
 ghost use mathlib.Core.Path.{_≡_};
-ghost use Prim.Native.Nat.{_+_};
-ghost use lib.Dec.{eqb};
 ghost use Rattle.book.specs.Answers.{valueOrNone};
+ghost use Rattle.book.specs.Sessions.{toldAgain};
 ghost use Rattle.standing.specs.Stands.{Stood};
 
 // A record that is next goes on to its gate, with the count that a taken gate makes; any other has its reply.
@@ -23,7 +20,7 @@ const FULL: u16 = 65535;
 
 // A repeat of the last record taken tells the value that is kept, one of an older record none.
 fn told_again(count: u16, value: ValueOrNone, at: u16) -> ValueOrNone
-    ensures { λ r. ⌜ valueOrNone r ≡ cond (eqb (at + 1) count) (valueOrNone value) none ⌝ }
+    ensures { λ r. ⌜ valueOrNone r ≡ toldAgain count (valueOrNone value) at ⌝ }
 {
     if at as u32 + 1 == count as u32 {
         return value;
