@@ -17,7 +17,8 @@ use Rattle.book.specs.Calls.{callOf, act}
 use Rattle.book.specs.ExactlyOnce.{Longest, In, Numbered, give, lastValue, OneOf, AllOf, cons, seen, Given, ExactlyOnce}
 use Rattle.book.specs.Kernels.{badSize, mostQubits, badLength, sizeTests}
 use Rattle.book.specs.Records.{readRecord}
-use Rattle.book.specs.Sessions.{Session, fresh, raised, Delivery, kept, counted, toldAgain, standing, takeRecord, takeRead, takeSized, deliver, deliverAll}
+use Rattle.book.specs.Sessions.{Session, fresh, raised, Delivery, kept, counted, toldAgain, standing}
+use Rattle.book.specs.Sessions.{takeRecord, takeRead, takeSized, deliver, deliverAll}
 use Rattle.book.specs.declared.Record.{Record}
 use Rattle.book.proofs.Calls.{sized-right}
 use Rattle.book.proofs.Found.{longest-none, longest-same, longest-next}

@@ -18,7 +18,7 @@ fn word_of(value: ValueOrNone) -> u32
 }
 
 // The value of any word.
-fn value_of(word: u32) -> ValueOrNone
+fn value_from(word: u32) -> ValueOrNone
     ensures { λ r. ⌜ valueOrNone r ≡ valueIn word ⌝ }
 {
     if word == 0 {
@@ -36,7 +36,7 @@ pub fn count_in(words: &[u32; 8]) -> u16
 pub fn value_in(words: &[u32; 8]) -> ValueOrNone
     ensures { λ r. ⌜ valueOrNone r ≡ sessionIn (now (words .entry)) .value ⌝ }
 {
-    value_of(words[3])
+    value_from(words[3])
 }
 
 // A session that starts.

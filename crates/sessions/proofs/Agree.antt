@@ -16,16 +16,16 @@ use Rattle.sessions.specs.declared.Session.{Session}
 use Rattle.sessions.specs.declared.Started.{Started}
 use Rattle.sessions.specs.declared.Started.the-variants.{Fresh, Refused as Unstarted}
 
-abbrev valueOf : Option ℕ → ValueOrNone
-valueOf none = None
-valueOf (some v) = Value v
+abbrev toldBack : Option ℕ → ValueOrNone
+toldBack none = None
+toldBack (some v) = Value v
 
-value-back : (x : ValueOrNone) → valueOf (valueOrNone x) ≡ x
+value-back : (x : ValueOrNone) → toldBack (valueOrNone x) ≡ x
 value-back None = refl
 value-back (Value v) = refl
 
 abbrev replyOf : Replied → Reply
-replyOf (again v) = Again (valueOf v)
+replyOf (again v) = Again (toldBack v)
 replyOf (said x) = Said (answerOf x)
 
 reply-back : (x : Reply) → replyOf (replies x) ≡ x
@@ -33,7 +33,7 @@ reply-back (Again v) = ap Again (value-back v)
 reply-back (Said a) = ap Said (answer-back a)
 
 abbrev sessionOf : Book.Session → Session
-sessionOf s = resumed (s .n) (s .number) (s .count) (valueOf (s .value))
+sessionOf s = resumed (s .n) (s .number) (s .count) (toldBack (s .value))
 
 session-back : (s : Session) → sessionOf (meant s) ≡ s
 session-back s = ap (resumed (s .n) (s .number) (s .count)) (value-back (s .value))
