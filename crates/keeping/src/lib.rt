@@ -27,6 +27,7 @@ fn value_from(word: u32) -> ValueOrNone
     ValueOrNone::Value(((word - 1) % 256) as u8)
 }
 
+// The count of the session that the words are, and its value.
 pub fn count_in(words: &[u32; 8]) -> u16
     ensures { λ r. ⌜ r ≡ sessionIn (now (words .entry)) .count ⌝ }
 {
