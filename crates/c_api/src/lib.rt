@@ -5,6 +5,7 @@ mod feeds;
 mod kernels;
 mod matrices;
 mod records;
+mod slow;
 
 ghost use mathlib.Core.Path.{_≡_};
 ghost use lib.Ieee.{binary64};

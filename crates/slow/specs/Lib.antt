@@ -1,0 +1,2 @@
+-- What a gate leaves at each index, and what the engine asks.
+pub mod Slow
