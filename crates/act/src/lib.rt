@@ -1,11 +1,20 @@
-// What a gate does to a state of n qubits: the kernel of each code, one line each.
+// What a gate does to a state of n qubits, by either engine. The kernel of each code has a line.
 use book::Answer;
 use book::Gate;
+use slow_act::Ran;
+use slow_act::act_slowly;
 ghost use Rattle.book.specs.Answers.{Does};
 ghost use Rattle.book.specs.Calls as Book;
 ghost use Rattle.book.specs.Lent.{before, after};
 
-pub fn act(n: u32, gate: Gate, reals: &mut [f64], imags: &mut [f64]) -> Answer
+// Which engine runs a gate. No contract asks: both do the same.
+pub enum Engine {
+    Fast,
+    Slow,
+}
+
+// By the kernels.
+fn act(n: u32, gate: Gate, reals: &mut [f64], imags: &mut [f64]) -> Answer
     ensures { λ r. ⌜ Does (Book.act n gate (before reals imags)) r (after reals imags) ⌝ }
 {
     match gate {
@@ -22,4 +31,16 @@ pub fn act(n: u32, gate: Gate, reals: &mut [f64], imags: &mut [f64]) -> Answer
         Gate::Measure(t, forced) => measurement::measure_qubit(reals, imags, n, t as u32, forced),
         Gate::BitFlip(t, noise) => gates::bit_flip_noise_apply(reals, imags, n, t as u32, noise),
     }
+}
+
+// By the engine that is asked for. Measuring has one kernel, and the slow engine has room for 11 qubits.
+pub fn run(engine: Engine, n: u32, gate: Gate, reals: &mut [f64], imags: &mut [f64]) -> Answer
+    ensures { λ r. ⌜ Does (Book.act n gate (before reals imags)) r (after reals imags) ⌝ }
+{
+    if let Engine::Slow = engine {
+        if let Ran::Slowly(answer) = act_slowly(n, gate, reals, imags) {
+            return answer;
+        }
+    }
+    act(n, gate, reals, imags)
 }

@@ -8,6 +8,7 @@ ghost use Rattle.bench_run.specs.Turns.{Begins};
 
 mod turns;
 
+use act::Engine;
 use feeding::Feed;
 use first_state::MOST_PLACES;
 use gathering::STOPPED;
@@ -66,14 +67,20 @@ fn left(turns: u64, more: bool) -> u64
 
 // Reads to the end, and writes what has been answered before more is waited for. Nothing says that an input ends: the turns are counted down from a number that
 // no run uses up.
-fn take_input(input: i32, start: Running, reals: &mut [f64], imags: &mut [f64]) -> Behind {
+fn take_input(
+    engine: Engine,
+    input: i32,
+    start: Running,
+    reals: &mut [f64],
+    imags: &mut [f64],
+) -> Behind {
     let mut chunk = [0u8; PIECE];
     let mut out = [0u8; OUT];
     let mut end = start;
     let mut open = true;
     let mut turns = u64::MAX;
     while 0 < turns {
-        let turn = take_turn(input, end, &mut chunk, &mut out, reals, imags);
+        let turn = take_turn(engine, input, end, &mut chunk, &mut out, reals, imags);
         let at = turn.at;
         open = io::write_all(libc::STDOUT_FILENO, &out[..at]);
         end = turn.next;
@@ -93,10 +100,16 @@ fn write_closing(end: Running, reals: &[f64], imags: &[f64]) -> bool
 }
 
 // The frames, and then the state behind them.
-fn run_session(input: i32, start: Running, reals: &mut [f64], imags: &mut [f64]) -> Ended
+fn run_session(
+    engine: Engine,
+    input: i32,
+    start: Running,
+    reals: &mut [f64],
+    imags: &mut [f64],
+) -> Ended
     requires { ⌜ Begins (runOf start) (here reals imags) ⌝ }
 {
-    let behind = take_input(input, start, reals, imags);
+    let behind = take_input(engine, input, start, reals, imags);
     let end = behind.end;
     if behind.open {
         let written = write_closing(end, reals, imags);
@@ -106,13 +119,14 @@ fn run_session(input: i32, start: Running, reals: &mut [f64], imags: &mut [f64])
 }
 
 // From state real 1 at index 0, with the places that a state of n qubits has.
-fn run_bench(input: i32, n: u32, number: u32) -> Ended
+fn run_bench(engine: Engine, input: i32, n: u32, number: u32) -> Ended
     requires { ⌜ n ≤ 11 ⌝ }
 {
     let size: usize = 1 << n;
     let mut reals = first_state::first_reals();
     let mut imags = [0.0; MOST_PLACES];
     run_session(
+        engine,
         input,
         program::start(n, number),
         &mut reals[0..size],
@@ -129,12 +143,12 @@ fn bad_header() -> Ended {
 }
 
 // From an open descriptor: that of a stored run, or standard input.
-pub fn run_from(input: i32) -> Ended {
+pub fn run_from(engine: Engine, input: i32) -> Ended {
     let mut head = [0u8; 8];
     let got = io::read_full(input, &mut head);
     let header = headers::read_header(&head[..got]);
     match header {
-        Header::Good(n, number) => run_bench(input, n, number),
+        Header::Good(n, number) => run_bench(engine, input, n, number),
         Header::Bad => bad_header(),
     }
 }
@@ -144,8 +158,8 @@ fn tell(line: &[u8]) {
 }
 
 // The language has no exit status: ./bench makes one of the line on standard error. Standard output has 01's lines alone.
-pub fn run() {
-    match run_from(libc::STDIN_FILENO) {
+pub fn run(engine: Engine) {
+    match run_from(engine, libc::STDIN_FILENO) {
         Ended::Whole => {}
         Ended::Cut => tell(b"gate_bench: CUT\n"),
         Ended::BadHeader => tell(b"gate_bench: BAD HEADER\n"),

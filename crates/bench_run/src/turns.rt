@@ -1,4 +1,5 @@
 // What is written, out of what was read: a turn's lines out of its piece, and the lines at the end.
+use act::Engine;
 use program::OUT;
 use program::PIECE;
 use program::Running;
@@ -19,6 +20,7 @@ pub(crate) struct Turn {
 
 // A piece is read and taken. Its lines stand at the start of `out`, all of them.
 pub(crate) fn take_turn(
+    engine: Engine,
     input: i32,
     from: Running,
     chunk: &mut [u8; PIECE],
@@ -33,7 +35,7 @@ pub(crate) fn take_turn(
     let read = libc::read(input, chunk);
     let piece = &chunk[..];
     let got = io::count(read, piece);
-    let printed = program::put_piece(from, &piece[..got], out, 0, reals, imags);
+    let printed = program::put_piece(engine, from, &piece[..got], out, 0, reals, imags);
     let next = printed.next;
     Turn {
         next,

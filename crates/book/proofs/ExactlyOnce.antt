@@ -1,6 +1,6 @@
 -- Demand 3, proved: by one delivery after the other, with `Holds` between them. Junk, repeats, early records and other sessions' leave everything as it is and
 -- make no start longer; the next record of the list is taken, since all are accepted in order, and makes the longest start one longer. Assumes nothing.
-use Prim.Native.Nat.{ℕ, zero, suc, _+_, _^_, _≤_, _<_}
+use Prim.Native.Nat.{ℕ, zero, suc, _+_, _^_, _<_}
 use mathlib.Core.Bool.{Bool, true, false, cond}
 use mathlib.Core.List.{List, [], _∷_, _++_, append-nil, append-assoc}
 use mathlib.Core.Logic.{inl, inr, ⊎-elim}

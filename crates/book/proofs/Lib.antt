@@ -8,6 +8,7 @@ pub mod Lengths
 pub mod ExactlyOnce
 pub mod Bits
 pub mod Tables
+pub mod Places
 pub mod Refusals
 pub mod Twice
 pub mod Agree

@@ -160,9 +160,9 @@ x-twice t c n b = undone xRule any [] (λ p. refl) n t c b
 -- ---- SWAP
 
 -- bits that differ, exchanged: the one is cleared and the other set
-record Exchanged (n t0 t1 i : ℕ) : Type 0 where
-  within : exchanged t0 t1 i < 2 ^ n
-  back : exchanged t0 t1 (exchanged t0 t1 i) ≡ i
+pub record Exchanged (n t0 t1 i : ℕ) : Type 0 where
+  pub within : exchanged t0 t1 i < 2 ^ n
+  pub back : exchanged t0 t1 (exchanged t0 t1 i) ≡ i
 
 exchange-comm : (t0 t1 i : ℕ) → exchanged t0 t1 i ≡ exchanged t1 t0 i
 exchange-comm t0 t1 i = omega arith
@@ -189,7 +189,7 @@ moved n t0 t1 i q l e f =
       back = ap (exchanged t0 t1) is ∙ exchanged-is t0 t1 (j + 2 ^ t1) 0 1 b0 b1 ∙ omega arith;
     }
 
-exchange : (n t0 t1 i : ℕ) → t0 < n → t1 < n → i < 2 ^ n → Exchanged n t0 t1 i
+pub exchange : (n t0 t1 i : ℕ) → t0 < n → t1 < n → i < 2 ^ n → Exchanged n t0 t1 i
 exchange n t0 t1 i q0 q1 l =
     ⊎-elim
     (λ x. ⊎-elim (same 0 x) (λ y. turned (moved n t1 t0 i q0 l y x)) (halves t1 i))

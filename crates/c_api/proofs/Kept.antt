@@ -17,7 +17,7 @@ use Rattle.once.specs.AllOnce.{bench}
 use Rattle.once.specs.Answered.{Answered}
 use Rattle.sessions.specs.Deliveries.{Delivers}
 use Rattle.sessions.specs.declared.Delivered.{Delivered}
-use Rattle.c_api.specs.Tells.{becoming, TellsDelivery, fedNumber, Words, words, formIn, TellsFeed}
+use Rattle.c_api.specs.Tells.{becoming, TellsDelivery, fedNumber, Words, words, TellsFeed}
 
 module _ {w w′ : List ℕ} {s : Book.Session} (k : Keeps w (s .count) (s .value) w′) (own : Own (sessionIn w) s) where
   session-is : sessionIn w′ ≡ s

@@ -1,17 +1,13 @@
 -- The gates by number: what a test of the number says of its rule, and which number names P. Assumes nothing.
 use Prim.Native.Nat.{ℕ, zero, suc, _≤_, _<_}
-use mathlib.Core.List.{[]}
 use mathlib.Core.Path.{_≡_, refl}
 use borrow.Author.Tests.{le-leb, lt-leb}
-use Rattle.book.specs.Answers.{first}
 use Rattle.book.specs.Gates.{uMatrix}
 use Rattle.book.specs.State.{pair}
 use Rattle.book.specs.declared.Angle.{Angle}
 use Rattle.book.specs.declared.Angles.{Angles}
-use Rattle.book.specs.declared.Answer.the-variants.{Taken}
 use Rattle.book.specs.declared.Matrix.{Matrix}
 use Rattle.book.specs.declared.Pair.{Pair}
-use Rattle.seated.specs.Judging.{Judges}
 use Rattle.fed.specs.Named.{ruleOf, fusedOf, putOf, upperRule, upperOf}
 use Rattle.fed.specs.declared.Fed.{Fed}
 use Rattle.rules.specs.Rules.{quickOf}
@@ -35,7 +31,3 @@ pub leaves-s0 : (k : ℕ) (angle : Angle) (p : Pair) → upperRule k angle p ≡
 leaves-s0 zero angle p = refl
 leaves-s0 (suc k) angle p = refl
 
--- a gate that is fed no number has no test of its own
-pub none-judged : Judges [] Taken
-unfolding first
-none-judged = record { is = refl }

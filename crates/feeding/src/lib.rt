@@ -1,4 +1,5 @@
 // A form that takes bytes as they come, and makes each delivery when its frame is complete: it takes itself and a piece, and hands back the next one.
+use act::Engine;
 use answers::tell_reply;
 use book::Reply;
 use gathering::Due;
@@ -46,6 +47,7 @@ pub struct Stepped {
 
 // The delivery of a frame's contents, which used so many bytes of the piece. Behind a frame nothing is kept.
 fn make(
+    engine: Engine,
     session: Session,
     used: usize,
     contents: &[u8],
@@ -54,7 +56,7 @@ fn make(
 ) -> Stepped
     ensures { λ r. ⌜ Makes (meant session) (before reals imags) (now (contents .entry)) used r (after reals imags) ⌝ }
 {
-    let delivered = session.deliver(contents, reals, imags);
+    let delivered = session.deliver(engine, contents, reals, imags);
     let next = delivered.next;
     let reply = delivered.reply;
     Stepped {
@@ -67,6 +69,7 @@ fn make(
 
 // A frame that came in two parts: they are put together.
 fn make_joined(
+    engine: Engine,
     session: Session,
     first: &[u8],
     last: &[u8],
@@ -80,12 +83,13 @@ fn make_joined(
     let mut frame = [0u8; 97];
     let have = add(&mut frame, 0, first);
     let end = add(&mut frame, have, last);
-    make(session, last.len(), &frame[3..end], reals, imags)
+    make(engine, session, last.len(), &frame[3..end], reals, imags)
 }
 
 // One step: the piece is used up to the end of the first frame that it completes, and that is delivered; all of it where it completes none.
 // A frame that stands whole in its piece is delivered from there.
 pub fn take_piece(
+    engine: Engine,
     session: Session,
     kept: u32,
     held: &mut [u8; 97],
@@ -116,11 +120,18 @@ pub fn take_piece(
             let end = 3 + len;
             if used < end {
                 let all = &held[..];
-                return make_joined(session, &all[..end - used], &piece[..used], reals, imags);
+                return make_joined(
+                    engine,
+                    session,
+                    &all[..end - used],
+                    &piece[..used],
+                    reals,
+                    imags,
+                );
             }
-            make(session, used, &piece[3..end], reals, imags)
+            make(engine, session, used, &piece[3..end], reals, imags)
         }
-        Due::TooLong => make(session, used, &piece[..0], reals, imags),
+        Due::TooLong => make(engine, session, used, &piece[..0], reals, imags),
     }
 }
 
@@ -148,6 +159,7 @@ fn fill(told: Told, count: u16, filled: usize, answers: &mut [u32]) -> usize
 
 // All of a piece, step by step.
 fn take_whole(
+    engine: Engine,
     from: Filling,
     held: &mut [u8; 97],
     piece: &[u8],
@@ -165,7 +177,7 @@ fn take_whole(
     let mut filled = from.filled;
     let mut at: usize = 0;
     while at < piece.len() {
-        let fed = take_piece(session, kept, held, &piece[at..], reals, imags);
+        let fed = take_piece(engine, session, kept, held, &piece[at..], reals, imags);
         let next = fed.session;
         let told = fed.told;
         filled = fill(told, next.count, filled, answers);
@@ -192,13 +204,13 @@ impl Feed {
         }
     }
 
-    pub fn take(self, piece: &[u8], reals: &mut [f64], imags: &mut [f64]) -> Taken
+    pub fn take(self, engine: Engine, piece: &[u8], reals: &mut [f64], imags: &mut [f64]) -> Taken
         ensures { λ r. ⌜ Takes (formOf self) (before reals imags) (now (piece .entry)) (r .used) (toldOf (r .told) (r .next .session .count))
             (formOf (r .next)) (after reals imags) ⌝ }
     {
         let mut held = self.held;
         let session = self.session;
-        let fed = take_piece(session, self.kept, &mut held, piece, reals, imags);
+        let fed = take_piece(engine, session, self.kept, &mut held, piece, reals, imags);
         let after = fed.session;
         let told = fed.told;
         let next = Feed {
@@ -224,6 +236,7 @@ impl Feed {
     // Each answer is stored as one number, as far as the list goes.
     pub fn take_all(
         self,
+        engine: Engine,
         bytes: &[u8],
         lengths: &[usize],
         answers: &mut [u32],
@@ -245,7 +258,15 @@ impl Feed {
         while i < lengths.len() {
             let size = next_size(lengths[i], bytes.len() - at);
             let end = at + size;
-            filling = take_whole(filling, &mut held, &bytes[at..end], answers, reals, imags);
+            filling = take_whole(
+                engine,
+                filling,
+                &mut held,
+                &bytes[at..end],
+                answers,
+                reals,
+                imags,
+            );
             at = end;
             i += 1;
         }

@@ -8,8 +8,9 @@ use native.Mathlib.Omega.{arith}
 use borrow.Author.Tests.{eq-eqb, eqb-true}
 use lib.Bits.{bitAnd}
 use lib.Pow.{pow-pos}
+use Rattle.book.proofs.Places.{placed-neither, placed-lower, placed-upper}
 use Rattle.book.specs.Answers.{Buffers}
-use Rattle.book.specs.State.{State, at, bit, chosen, choice, pair, placed, onPairs}
+use Rattle.book.specs.State.{State, at, bit, chosen, pair, placed, onPairs}
 use Rattle.book.specs.declared.Controls.{Controls}
 use Rattle.book.specs.declared.Pair.{Pair}
 use Rattle.seated.specs.Judging.{Seated}
@@ -20,20 +21,6 @@ use Rattle.pairs.proofs.Buffers.{held-ext}
 pub by-bool : {P : Type 0} (b : Bool) → (b ≡ true → P) → (b ≡ false → P) → P
 by-bool true f g = f refl
 by-bool false f g = g refl
-
--- ---- what the rule makes of a place, by the three cases of 01
-module _ (rule : Pair → Pair) (t : ℕ) (c : Controls) (s : State) where
-  pub placed-neither : (i : ℕ) → chosen c i ≡ false → placed rule t c s i ≡ s i
-  unfolding placed choice
-  placed-neither i h = rw h
-
-  pub placed-lower : (i : ℕ) → chosen c i ≡ true → bit t i ≡ 0 → placed rule t c s i ≡ rule (pair (s i) (s (i + 2 ^ t))) .s0
-  unfolding placed choice
-  placed-lower i h e = rw (h, e)
-
-  pub placed-upper : (i : ℕ) → chosen c i ≡ true → bit t i ≡ 1 → placed rule t c s i ≡ rule (pair (s (i - 2 ^ t)) (s i)) .s1
-  unfolding placed choice
-  placed-upper i h e = rw (h, e)
 
 -- ---- the choice and the keys
 module _ (t : ℕ) (c : Controls) (free : bit t (c .ones) ≡ 0) where

@@ -18,13 +18,12 @@ use Rattle.book.specs.State.{uncontrolled, onPairs}
 use Rattle.book.specs.declared.Answer.{Answer}
 use Rattle.book.specs.declared.Answer.the-variants.{Taken, Value}
 use Rattle.book.specs.declared.Noise.{Noise}
-use Rattle.seated.proofs.Judged.{passed, works, keeps}
+use Rattle.seated.proofs.Judged.{passed, own-judged, works, keeps}
 use Rattle.seated.proofs.Seats.{free-seated}
 use Rattle.seated.proofs.Shifts.{shl, shl-is}
 use Rattle.seated.specs.Judging.{Judges, firstOf, Seated, freeTests}
 use Rattle.pairs.specs.Pairs.{Keyed, Swept}
 use Rattle.pairs.proofs.Chosen.{keyed, swept-gate}
-use Rattle.pairs.proofs.Gate.{own-judged}
 
 abbrev pub flipOf : ℕ → ℕ → Noise → Buffers → Outcome
 flipOf n t noise b = outcomeOf (sizeTests n b) b (bitFlipCall n t noise b)

@@ -1,7 +1,7 @@
 -- A gate's call after its judge, in the code's terms: its own tests behind its seat's, what its sweep asks, and what its answer then does. Assumes nothing.
 use Prim.Native.Nat.{ℕ, _+_, _^_, _<_}
-use mathlib.Core.List.{List, [], _∷_, _++_, append-assoc}
-use mathlib.Core.Path.{_≡_, sym, ap, subst}
+use mathlib.Core.List.{List, [], _∷_, _++_}
+use mathlib.Core.Path.{_≡_, ap}
 use native.Mathlib.Omega.{arith}
 use denote.Enum.Declared.{tagOf}
 use lib.Dec.{T}
@@ -15,19 +15,12 @@ use Rattle.book.specs.declared.Answer.{Answer}
 use Rattle.book.specs.declared.Answer.the-variants.{Taken}
 use Rattle.book.specs.declared.Controls.{Controls}
 use Rattle.book.specs.declared.Pair.{Pair}
-use Rattle.seated.proofs.Judged.{passed, judged-then, works, keeps}
+use Rattle.seated.proofs.Judged.{passed, own-judged, works, keeps}
 use Rattle.seated.proofs.Seats.{seated}
 use Rattle.seated.proofs.Shifts.{shl, shl-is, pow-le}
 use Rattle.seated.specs.Judging.{Judges, firstOf, Seated}
 use Rattle.pairs.specs.Pairs.{Keyed, Swept}
 use Rattle.pairs.proofs.Chosen.{keyed, swept-gate}
-
--- a call's seat was judged, and then its own tests
-pub own-judged : (sizes seat own : List Test) {s o r : Answer} → T (numbered (sizes ++ seat)) → Judges (sizes ++ seat) s → Judges own o → r ≡ firstOf s o
-    → Judges (sizes ++ (seat ++ own)) r
-own-judged sizes seat own {s} {o} w j k e =
-    subst (Judges (sizes ++ (seat ++ own))) (sym e)
-    (subst (λ (ts : List Test). Judges ts (firstOf s o)) (append-assoc sizes seat own) (judged-then (sizes ++ seat) own w j k))
 
 -- a gate on pairs that was judged so
 pub record Judged (most : ℕ) (own : List Test) (n t : ℕ) (c : Controls) (b : Buffers) (r : Answer) : Type 0 where

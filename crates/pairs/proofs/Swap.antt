@@ -4,9 +4,7 @@ use mathlib.Core.Bool.{Bool, true, false, _||_}
 use mathlib.Core.List.{[], _∷_, _++_}
 use mathlib.Core.Option.{none}
 use mathlib.Core.Path.{_≡_, refl, ap, ap₂, subst}
-use native.Mathlib.Decide.{decLt}
 use native.Mathlib.Omega.{arith}
-use borrow.Author.Tests.{le-leb, lt-leb}
 use denote.Enum.Declared.{tagOf}
 use lib.Dec.{leb}
 use types.Run.{OneOf}
@@ -18,7 +16,7 @@ use Rattle.book.specs.State.{uncontrolled}
 use Rattle.book.specs.declared.Answer.{Answer}
 use Rattle.book.specs.declared.Answer.the-variants.{Taken}
 use Rattle.seated.proofs.Judged.{passed, works, keeps}
-use Rattle.seated.proofs.Seats.{free-seated}
+use Rattle.seated.proofs.Seats.{free-seated, higher}
 use Rattle.seated.proofs.Shifts.{shl, shl-is, pow-le}
 use Rattle.seated.specs.Judging.{Judges, Seated, freeTests}
 use Rattle.pairs.specs.Pairs.{Keyed, Swept}
@@ -26,13 +24,6 @@ use Rattle.pairs.proofs.Exchanged.{swap-keyed, swept-swap, swapped-itse
 
 abbrev pub swapOf : ℕ → ℕ → ℕ → Buffers → Outcome
 swapOf n t u b = outcomeOf (sizeTests n b) b (swapCall n t u b)
-
-higher : (n t u : ℕ) → t ≤ u → leb n u ≡ (leb n t || leb n u)
-higher n t u l =
-    elim (decLt t n) [
-      | yes h ↦ rw (lt-leb n t h)
-      | no h ↦ rw (le-leb n t (let x : n ≤ t = omega arith in x), le-leb n u (let y : n ≤ u = omega arith in y))
-    ]
 
 -- SWAP that was judged by u, where t is not the higher
 pub record Judged (n t u : ℕ) (b : Buffers) (r : Answer) : Type 0 where

@@ -1,4 +1,5 @@
 // The program over slices, piece by piece: bench_run reads and writes, and does all between by these functions. Crate whole_run puts them together.
+use act::Engine;
 use feeding::Feed;
 use feeding::Told;
 use feeding::take_piece;
@@ -65,6 +66,7 @@ fn put_told(out: &mut [u8], at: usize, index: u64, told: Told, count: u16) -> Pl
 
 // All of a piece: its deliveries are made, and their lines are put behind a place of the output as far as it goes.
 pub fn put_piece(
+    engine: Engine,
     from: Running,
     piece: &[u8],
     out: &mut [u8],
@@ -83,7 +85,15 @@ pub fn put_piece(
     let mut at = next_size(behind, out.len());
     let mut done: usize = 0;
     while done < piece.len() {
-        let fed = take_piece(session, kept, &mut held, &piece[done..], reals, imags);
+        let fed = take_piece(
+            engine,
+            session,
+            kept,
+            &mut held,
+            &piece[done..],
+            reals,
+            imags,
+        );
         session = fed.session;
         kept = fed.kept;
         let told = fed.told;

@@ -1,7 +1,7 @@
 -- A call after its judge: one that passed does its work, and another keeps what was there; and one list of tests judged behind another. Assumes nothing.
 use Prim.Native.Nat.{ℕ, zero, suc}
-use mathlib.Core.List.{List, [], _∷_, _++_}
-use mathlib.Core.Path.{_≡_, refl, sym, ap, _∙_}
+use mathlib.Core.List.{List, [], _∷_, _++_, append-assoc}
+use mathlib.Core.Path.{_≡_, refl, sym, ap, _∙_, subst}
 use native.Mathlib.Omega.{arith}
 use denote.Enum.Declared.{tagOf}
 use lib.Dec.{T}
@@ -48,6 +48,18 @@ module _ (ts us : List Test) (w : T (numbered ts)) where
       by Taken j = judged-behind j refl j′
       by (Value v) j = stays (Value v) j (first ts) refl (λ e. let z : _≡_ {A = ℕ} 0 1 = (cc) in omega arith)
       by (Refused q) j = stays (Refused q) j (first ts) refl (λ e. let z : _≡_ {A = ℕ} 0 1 = (cc) in omega arith)
+
+-- a call's seat was judged, and then its own tests
+pub own-judged : (sizes seat own : List Test) {s o r : Answer} → T (numbered (sizes ++ seat)) → Judges (sizes ++ seat) s → Judges own o → r ≡ firstOf s o
+    → Judges (sizes ++ (seat ++ own)) r
+own-judged sizes seat own {s} {o} w j k e =
+    subst (Judges (sizes ++ (seat ++ own))) (sym e)
+    (subst (λ (ts : List Test). Judges ts (firstOf s o)) (append-assoc sizes seat own) (judged-then (sizes ++ seat) own w j k))
+
+-- a gate that is fed no number has no test of its own
+pub none-judged : Judges [] Taken
+unfolding first
+none-judged = record { is = refl }
 
 -- ---- the call that was judged
 

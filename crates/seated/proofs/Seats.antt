@@ -4,8 +4,9 @@ use mathlib.Core.Bool.{Bool, true, false, cond, _||_}
 use mathlib.Core.List.{List, [], _++_}
 use mathlib.Core.Path.{_≡_, refl, ap, _∙_}
 use native.Mathlib.Nat.{mod-lt, zero-div, zero-lt-suc}
+use native.Mathlib.Decide.{decLt}
 use native.Mathlib.Omega.{arith}
-use borrow.Author.Tests.{ltb-false, leb-false, eqb-false, le-ltb, lt-leb, ne-eqb}
+use borrow.Author.Tests.{ltb-false, leb-false, eqb-false, le-ltb, le-leb, lt-leb, ne-eqb}
 use lib.Count.{ones, ones-le}
 use lib.Dec.{eqb, leb, ltb}
 use lib.Pow.{pow-pos}
@@ -73,3 +74,11 @@ free-judged most n t b j = record { is = j .is ∙ ap verdict (free most n t b [
 -- and what holds of such a call
 pub free-seated : (n t : ℕ) (b : Buffers) (own : List Test) → first (sizeTests n b ++ (freeTests n t ++ own)) ≡ 0 → Seated n t uncontrolled b
 free-seated n t b own e = seated 0 n t uncontrolled b own (free 0 n t b own ∙ e)
+
+-- the higher of two qubits is n or more if one of them is
+pub higher : (n t u : ℕ) → t ≤ u → leb n u ≡ (leb n t || leb n u)
+higher n t u l =
+    elim (decLt t n) [
+      | yes h ↦ rw (lt-leb n t h)
+      | no h ↦ rw (le-leb n t (let x : n ≤ t = omega arith in x), le-leb n u (let y : n ≤ u = omega arith in y))
+    ]

@@ -5,7 +5,6 @@ use mathlib.Core.Bool.{Bool, true, false, cond}
 use mathlib.Core.List.{List, _++_}
 use mathlib.Core.Option.{Option, some, none}
 use mathlib.Core.Path.{_≡_, refl, sym, ap, ap₂, _∙_}
-use native.Mathlib.Omega.{arith}
 use Rattle.book.proofs.Calls.{refused-keeps, sized-right, sized-wrong}
 use Rattle.book.proofs.Refusals.{sizes-numbered}
 use Rattle.book.specs.Answers.{Said, refused, valueOrNone, Replied, said, replies, first, Buffers, Outcome, Call, accepted, unless, accepts, Does}
@@ -16,7 +15,6 @@ use Rattle.book.specs.Sessions as Book
 use Rattle.book.specs.Sessions.{raised, kept, counted, standing, takeRecord, takeRead, takeSized, deliver}
 use Rattle.book.specs.declared.Answer.{Answer}
 use Rattle.book.specs.declared.Record.{Record}
-use Rattle.book.specs.declared.Refusal.{Refusal}
 use Rattle.book.specs.declared.Reply.{Reply}
 use Rattle.seated.specs.Judging.{verdict, Judges}
 use Rattle.counting.specs.Counts.{keptBy, Counts, behind, Passes}

@@ -1,5 +1,6 @@
 // Sessions: each delivery takes the session and hands back the next one, with the answer. However often a record comes, it is run once.
-use act::act;
+use act::Engine;
+use act::run;
 use book::Answer;
 use book::MOST_QUBITS;
 use book::Read;
@@ -92,7 +93,13 @@ impl Session {
     }
 
     // Only the next record goes on to its gate, whose own tests begin with 1 and 2: so a delivery is judged once.
-    pub fn deliver(self, bytes: &[u8], reals: &mut [f64], imags: &mut [f64]) -> Delivered
+    pub fn deliver(
+        self,
+        engine: Engine,
+        bytes: &[u8],
+        reals: &mut [f64],
+        imags: &mut [f64],
+    ) -> Delivered
         ensures { λ r. ⌜ Delivers (deliver (meant self) (before reals imags) (now (bytes .entry))) r (after reals imags) ⌝ }
     {
         let Read::Record(it) = reader::read_record(bytes) else {
@@ -102,7 +109,7 @@ impl Session {
         match stand(self.number, self.count, value, it) {
             Standing::Next(next) => {
                 let gate = it.gate;
-                let answer = act(self.n, gate, reals, imags);
+                let answer = run(engine, self.n, gate, reals, imags);
                 self.told(counting::ran(self.count, value, next, answer))
             }
             Standing::Answered(reply) => self.passed(reply, reals, imags),
@@ -112,6 +119,7 @@ impl Session {
     // Deliveries one after the other, which lie so in `bytes`; `lengths` says how many bytes each takes. Whatever comes, each record is run once.
     pub fn deliver_all(
         self,
+        engine: Engine,
         bytes: &[u8],
         lengths: &[usize],
         reals: &mut [f64],
@@ -125,7 +133,7 @@ impl Session {
         while i < lengths.len() {
             let size = next_size(lengths[i], bytes.len() - at);
             let end = at + size;
-            let delivered = session.deliver(&bytes[at..end], reals, imags);
+            let delivered = session.deliver(engine, &bytes[at..end], reals, imags);
             session = delivered.next;
             at = end;
             i += 1;

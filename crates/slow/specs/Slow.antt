@@ -10,8 +10,8 @@ use Rattle.book.specs.declared.Controls.{Controls}
 use Rattle.book.specs.declared.Pair.{Pair}
 use Rattle.slow.specs.declared.Deed.{Deed}
 use Rattle.slow.specs.declared.Deed.the-variants.{Nothing, Pairs, Swap}
-use Rattle.slow.specs.rules.declared.Rule.{Rule}
-use Rattle.slow.specs.rules.declared.Rule.the-variants.{H, X, Y, Z, P, Rx, Ry, Rz, U}
+use Rattle.slow.specs.declared.Rule.{Rule}
+use Rattle.slow.specs.declared.Rule.the-variants.{H, X, Y, Z, P, Rx, Ry, Rz, U}
 
 abbrev pub ruleOf : Rule → Pair → Pair
 ruleOf H = hRule
@@ -46,8 +46,8 @@ pub record Ready (n target second : ℕ) (b : Buffers) : Type 0 where
   pub fits : n ≤ 24
   pub reals : length (b .reals) ≡ 2 ^ n
   pub imags : length (b .imags) ≡ 2 ^ n
-  pub target : target < n
-  pub second : second < n
+  pub one : target < n
+  pub two : second < n
 
 -- an index of such a state
 pub record Reaches (target second : ℕ) (b : Buffers) (i : ℕ) : Type 0 where

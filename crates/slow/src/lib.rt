@@ -4,8 +4,9 @@
 mod rules;
 
 use book::Amplitude;
+use book::Angle;
+use book::Angles;
 use book::Controls;
-pub use rules::Rule;
 use rules::put;
 ghost use mathlib.Core.Path.{_≡_};
 ghost use Prim.Native.Nat.{_^_, _<_};
@@ -13,6 +14,19 @@ ghost use Rattle.book.specs.Kernels as Book;
 ghost use Rattle.book.specs.Lent.{before, after, here};
 ghost use Rattle.book.specs.State.{at, held, placed};
 ghost use Rattle.slow.specs.Slow.{ruleOf, leaves, secondOf, There, Ready, Reaches};
+
+// The gates that have a rule, with the numbers that each is fed.
+pub enum Rule {
+    H,
+    X,
+    Y,
+    Z,
+    P(Angle),
+    Rx(Angle),
+    Ry(Angle),
+    Rz(Angle),
+    U(Angles),
+}
 
 // What a gate does to the state: nothing, its rule to the chosen pairs, or the target exchanged with a second qubit.
 pub enum Deed {
@@ -93,21 +107,21 @@ pub fn fill(
     n: u32,
     target: u32,
     controls: Controls,
-    reals: &[f64],
-    imags: &[f64],
-    out_reals: &mut [f64],
-    out_imags: &mut [f64],
+    sr: &[f64],
+    si: &[f64],
+    reals: &mut [f64],
+    imags: &mut [f64],
 )
-    requires { ⌜ Ready n target (secondOf deed target) (here reals imags) ⌝ }
-    requires { ⌜ Ready n target target (here out_reals out_imags) ⌝ }
-    ensures { λ _. ⌜ after out_reals out_imags ≡ held (2 ^ n) (leaves deed target controls (at (before reals imags))) ⌝ }
+    requires { ⌜ Ready n target (secondOf deed target) (here sr si) ⌝ }
+    requires { ⌜ Ready n target target (here reals imags) ⌝ }
+    ensures { λ _. ⌜ after reals imags ≡ held (2 ^ n) (leaves deed target controls (at (before sr si))) ⌝ }
 {
     let size: usize = 1 << n;
     let mut i: usize = 0;
     while i < size {
-        let z = place(deed, target, controls, reals, imags, i);
-        out_reals[i] = z.re;
-        out_imags[i] = z.im;
+        let z = place(deed, target, controls, sr, si, i);
+        reals[i] = z.re;
+        imags[i] = z.im;
         i += 1;
     }
 }

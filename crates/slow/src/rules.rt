@@ -1,4 +1,5 @@
 // Each gate's rule as 01 lists it, with (a,b) at s0 and (c,d) at s1: each sum, difference and product rounds once, in the order written.
+use crate::Rule;
 use book::Amplitude;
 use book::Angle;
 use book::Angles;
@@ -9,19 +10,6 @@ ghost use Rattle.book.specs.Gates as Gates;
 ghost use Rattle.book.specs.Gates.{hRule, pRule, rxRule, ryRule, rzRule, uMatrix, uRule};
 ghost use Rattle.book.specs.State.{amplitude, pair};
 ghost use Rattle.slow.specs.Slow.{ruleOf};
-
-// The gates that have a rule, with the numbers that each is fed.
-pub enum Rule {
-    H,
-    X,
-    Y,
-    Z,
-    P(Angle),
-    Rx(Angle),
-    Ry(Angle),
-    Rz(Angle),
-    U(Angles),
-}
 
 // s0 = (x,y), s1 = (z,w).
 fn becomes(x: f64, y: f64, z: f64, w: f64) -> Pair

@@ -1,4 +1,5 @@
 // The whole program over slices: from all bytes of the input to all bytes that are printed, in pieces as bench_run reads them.
+use act::Engine;
 use first_state::MOST_PLACES;
 use first_state::first_reals;
 use headers::Header;
@@ -25,6 +26,7 @@ ghost use Rattle.program.specs.Program.{linesOf, printed, runOf, Prints};
 
 // Piece after piece, as bench_run reads them.
 fn put_pieces(
+    engine: Engine,
     from: Running,
     bytes: &[u8],
     out: &mut [u8],
@@ -39,7 +41,7 @@ fn put_pieces(
     let mut done: usize = 0;
     while done < bytes.len() {
         let end = done + next_size(PIECE, bytes.len() - done);
-        let printed = put_piece(next, &bytes[done..end], out, at, reals, imags);
+        let printed = put_piece(engine, next, &bytes[done..end], out, at, reals, imags);
         next = printed.next;
         at = printed.at;
         done = end;
@@ -49,6 +51,7 @@ fn put_pieces(
 
 // The frames' lines, and those behind them, of a run that begins here.
 fn put_lines(
+    engine: Engine,
     from: Running,
     frames: &[u8],
     out: &mut [u8],
@@ -58,12 +61,12 @@ fn put_lines(
     ensures { λ r. ⌜ (runOf from .index ≡ 0 → restIn (runOf from .form) ≡ begun []
         → Put (linesOf (runOf from .form .session) (before reals imags) (now (frames .entry))) (now (out .entry)) 0 r (now (out .exit))) ⌝ }
 {
-    let printed = put_pieces(from, frames, out, reals, imags);
+    let printed = put_pieces(engine, from, frames, out, reals, imags);
     put_end(printed.next, reals, imags, out, printed.at)
 }
 
 // In the places of n qubits.
-fn put_run(n: u32, number: u32, frames: &[u8], out: &mut [u8]) -> usize
+fn put_run(engine: Engine, n: u32, number: u32, frames: &[u8], out: &mut [u8]) -> usize
     requires { ⌜ n ≤ 11 ⌝ }
     ensures { λ r. ⌜ Put (linesOf (Book.fresh n number) (firstState n) (now (frames .entry))) (now (out .entry)) 0 r (now (out .exit)) ⌝ }
 {
@@ -71,6 +74,7 @@ fn put_run(n: u32, number: u32, frames: &[u8], out: &mut [u8]) -> usize
     let mut reals = first_reals();
     let mut imags = [0.0; MOST_PLACES];
     put_lines(
+        engine,
         start(n, number),
         frames,
         out,
@@ -80,11 +84,11 @@ fn put_run(n: u32, number: u32, frames: &[u8], out: &mut [u8]) -> usize
 }
 
 // From the whole input to the whole output, as far as the buffer goes: what the program prints. The answer is how many bytes stand there.
-pub fn print_all(input: &[u8], out: &mut [u8]) -> usize
+pub fn print_all(engine: Engine, input: &[u8], out: &mut [u8]) -> usize
     ensures { λ r. ⌜ Put (printed (now (input .entry))) (now (out .entry)) 0 r (now (out .exit)) ⌝ }
 {
     match read_header(input) {
-        Header::Good(n, number) => put_run(n, number, behind_header(input), out),
+        Header::Good(n, number) => put_run(engine, n, number, behind_header(input), out),
         Header::Bad => put_bad_header(out, 0),
     }
 }

@@ -1,7 +1,7 @@
 -- `fed::own` meets its contract: no test, or test 6 of the numbers that the gate is fed. Assumes nothing.
 use borrow.Author.Needs.{needs}
 use borrow.Author.Tests.{le-leb, lt-leb}
-use Rattle.fed.proofs.Numbers.{none-judged}
+use Rattle.seated.proofs.Judged.{none-judged}
 use Rattle.fed.proofs.own.Statement.{statement}
 use Rattle.fed.proofs.own.Tie as tie
 

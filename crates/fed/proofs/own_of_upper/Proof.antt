@@ -1,6 +1,7 @@
 -- `fed::own_of_upper` meets its contract: Z is fed no number, P an angle. Assumes nothing.
 use borrow.Author.Needs.{needs}
-use Rattle.fed.proofs.Numbers.{rest, none-judged}
+use Rattle.fed.proofs.Numbers.{rest}
+use Rattle.seated.proofs.Judged.{none-judged}
 use Rattle.fed.proofs.own_of_upper.Statement.{statement}
 use Rattle.fed.proofs.own_of_upper.Tie as tie
 

@@ -1,0 +1,2 @@
+-- Reach: what a deed reads is there.
+pub mod Reach

@@ -1,0 +1,2 @@
+-- Which gates the slow engine runs, and what it then does.
+pub mod Runs
