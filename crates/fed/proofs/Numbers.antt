@@ -30,4 +30,3 @@ rest (suc k) h = (k, refl)
 pub leaves-s0 : (k : ℕ) (angle : Angle) (p : Pair) → upperRule k angle p ≡ pair (p .s0) (upperOf k angle (p .s1))
 leaves-s0 zero angle p = refl
 leaves-s0 (suc k) angle p = refl
-

@@ -1,14 +1,20 @@
 // A gate by the slow engine, in place: into a second state, and from there back over the first. So a session may be run by it.
 use book::Answer;
+use book::Controls;
 use book::Gate;
-ghost use mathlib.Core.Bool.{not, _&&_};
+use book::Noise;
+use slow::Rule;
+use slow_gates::bit_flip_noise_apply;
+use slow_gates::on_pairs;
+use slow_gates::swap_apply;
+ghost use mathlib.Core.Bool.{_&&_};
 ghost use mathlib.Core.Path.{_≡_};
-ghost use lib.Dec.{leb};
 ghost use lib.ListN.{length};
 ghost use Rattle.book.specs.Calls.{act};
-ghost use Rattle.book.specs.Lent.{before, after};
-ghost use Rattle.slow_gates.specs.Into as Book;
-ghost use Rattle.slow_act.specs.Runs.{measures, hasRoom, Runs};
+ghost use Rattle.book.specs.Answers.{says, outcomeOf, accepts};
+ghost use Rattle.book.specs.Lent.{before, after, here, SameSize};
+ghost use Rattle.slow_gates.specs.Into.{intoTests};
+ghost use Rattle.slow_act.specs.Runs.{askedOf, can, callFor, hasRoom, Runs};
 
 // The second state has room for 11 qubits, which are the most in the program.
 const MOST_PLACES: usize = 2048;
@@ -19,34 +25,57 @@ pub enum Ran {
     Not,
 }
 
-// The call of each code, one line each.
-fn act_into(n: u32, gate: Gate, sr: &[f64], si: &[f64], reals: &mut [f64], imags: &mut [f64]) -> Ran
-    ensures { λ r. ⌜ Runs (not (measures gate)) (Book.into n gate (before sr si) (before reals imags)) (before reals imags) r
-        (after reals imags) ⌝ }
+// A gate as the slow engine is asked for it: a rule at a target with its controls, SWAP, a bit flip, or nothing that it can do.
+pub enum Asked {
+    Pairs(u8, Controls, Rule),
+    Swap(u8, u8),
+    Flip(u8, Noise),
+    Not,
+}
+
+fn ask(gate: Gate) -> Asked
+    ensures { λ r. ⌜ r ≡ askedOf gate ⌝ }
 {
-    let answer = match gate {
-        Gate::H(t, c) => slow_gates::h_apply(sr, si, reals, imags, n, t as u32, c),
-        Gate::X(t, c) => slow_gates::x_apply(sr, si, reals, imags, n, t as u32, c),
-        Gate::Y(t, c) => slow_gates::y_apply(sr, si, reals, imags, n, t as u32, c),
-        Gate::Z(t, c) => slow_gates::z_apply(sr, si, reals, imags, n, t as u32, c),
-        Gate::P(t, c, a) => slow_gates::p_apply(sr, si, reals, imags, n, t as u32, c, a),
-        Gate::Rx(t, c, a) => slow_gates::rx_apply(sr, si, reals, imags, n, t as u32, c, a),
-        Gate::Ry(t, c, a) => slow_gates::ry_apply(sr, si, reals, imags, n, t as u32, c, a),
-        Gate::Rz(t, c, a) => slow_gates::rz_apply(sr, si, reals, imags, n, t as u32, c, a),
-        Gate::U(t, c, a) => slow_gates::u_apply(sr, si, reals, imags, n, t as u32, c, a),
-        Gate::Swap(t, u) => slow_gates::swap_apply(sr, si, reals, imags, n, t as u32, u as u32),
-        Gate::Measure(_, _) => return Ran::Not,
-        Gate::BitFlip(t, noise) => slow_gates::bit_flip_noise_apply(
-            sr,
-            si,
-            reals,
-            imags,
-            n,
-            t as u32,
-            noise,
-        ),
-    };
-    Ran::Slowly(answer)
+    match gate {
+        Gate::H(t, c) => Asked::Pairs(t, c, Rule::H),
+        Gate::X(t, c) => Asked::Pairs(t, c, Rule::X),
+        Gate::Y(t, c) => Asked::Pairs(t, c, Rule::Y),
+        Gate::Z(t, c) => Asked::Pairs(t, c, Rule::Z),
+        Gate::P(t, c, angle) => Asked::Pairs(t, c, Rule::P(angle)),
+        Gate::Rx(t, c, angle) => Asked::Pairs(t, c, Rule::Rx(angle)),
+        Gate::Ry(t, c, angle) => Asked::Pairs(t, c, Rule::Ry(angle)),
+        Gate::Rz(t, c, angle) => Asked::Pairs(t, c, Rule::Rz(angle)),
+        Gate::U(t, c, angles) => Asked::Pairs(t, c, Rule::U(angles)),
+        Gate::Swap(t, u) => Asked::Swap(t, u),
+        Gate::Measure(_, _) => Asked::Not,
+        Gate::BitFlip(t, noise) => Asked::Flip(t, noise),
+    }
+}
+
+// Into the second state.
+fn act_into(
+    n: u32,
+    asked: Asked,
+    sr: &[f64],
+    si: &[f64],
+    reals: &mut [f64],
+    imags: &mut [f64],
+) -> Ran
+    ensures { λ r. ⌜ Runs (can asked) (outcomeOf (intoTests n (before sr si) (before reals imags)) (before reals imags) (callFor asked n (before sr si)))
+        (before reals imags) r (after reals imags) ⌝ }
+{
+    match asked {
+        Asked::Pairs(t, c, rule) => {
+            Ran::Slowly(on_pairs(sr, si, reals, imags, n, t as u32, c, rule))
+        }
+        Asked::Swap(t, u) => {
+            Ran::Slowly(swap_apply(sr, si, reals, imags, n, t as u32, u as u32))
+        }
+        Asked::Flip(t, noise) => {
+            Ran::Slowly(bit_flip_noise_apply(sr, si, reals, imags, n, t as u32, noise))
+        }
+        Asked::Not => Ran::Not,
+    }
 }
 
 // A state copied over another of its size.
@@ -70,4 +99,44 @@ fn accepted(answer: Answer) -> bool
         Answer::Value(_) => true,
         Answer::Refused(_) => false,
     }
+}
+
+// In place of the first state, with room for the second.
+fn act_over(
+    n: u32,
+    gate: Gate,
+    reals: &mut [f64],
+    imags: &mut [f64],
+    outr: &mut [f64],
+    outi: &mut [f64],
+) -> Ran
+    requires { ⌜ SameSize (here reals imags) (here outr outi) ⌝ }
+    ensures { λ r. ⌜ Runs (can (askedOf gate)) (act n gate (before reals imags)) (before reals imags) r (after reals imags) ⌝ }
+{
+    let ran = act_into(n, ask(gate), reals, imags, outr, outi);
+    if let Ran::Slowly(answer) = ran {
+        if accepted(answer) {
+            copy(outr, reals);
+            copy(outi, imags);
+        }
+    }
+    ran
+}
+
+// A gate on a lent state, by the slow engine where it can be.
+pub fn act_slowly(n: u32, gate: Gate, reals: &mut [f64], imags: &mut [f64]) -> Ran
+    ensures { λ r. ⌜ Runs (can (askedOf gate) && hasRoom (before reals imags)) (act n gate (before reals imags)) (before reals imags) r
+        (after reals imags) ⌝ }
+{
+    let mut outr = [0.0; MOST_PLACES];
+    let mut outi = [0.0; MOST_PLACES];
+    let many = reals.len();
+    let more = imags.len();
+    if MOST_PLACES < many {
+        return Ran::Not;
+    }
+    if MOST_PLACES < more {
+        return Ran::Not;
+    }
+    act_over(n, gate, reals, imags, &mut outr[..many], &mut outi[..more])
 }

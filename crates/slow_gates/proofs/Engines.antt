@@ -1,13 +1,15 @@
 -- The two engines agree: where the outputs have their length both are judged by the same tests, and both meet one call of the book. Assumes nothing.
 use Prim.Native.Nat.{ℕ, zero, suc, _^_}
 use mathlib.Core.Bool.{Bool, true, false, cond, _||_}
-use mathlib.Core.List.{_++_}
+use mathlib.Core.List.{List, _++_}
 use mathlib.Core.Option.{Option, some, none}
-use mathlib.Core.Path.{_≡_, refl, sym, ap, _∙_}
+use mathlib.Core.Path.{_≡_, refl, sym, ap, ap₂, _∙_}
 use Rattle.book.proofs.Agree.{says-agree}
-use Rattle.book.specs.Answers.{says, first, Buffers, Call, Outcome, accepted, unless, accepts, Does}
+use Rattle.book.proofs.Calls.{refused-keeps}
+use Rattle.book.specs.Answers.{Said, says, Test, first, Buffers, Call, Outcome, accepted, unless, accepts, Does}
 use Rattle.book.specs.Calls.{callOf, act}
 use Rattle.book.specs.Kernels.{badLength, sizeTests}
+use Rattle.book.specs.declared.Answer.{Answer}
 use Rattle.book.specs.declared.Gate.{Gate}
 use Rattle.slow_gates.specs.Into.{intoTests, into, EnginesAgree}
 
@@ -15,10 +17,10 @@ or-false : (x y : Bool) → y ≡ false → (x || y) ≡ x
 or-false true y e = refl
 or-false false y e = e
 
--- outputs of the right length add no test
-same-tests : (n : ℕ) (b out : Buffers) → badLength (2 ^ n) out ≡ false → intoTests n b out ≡ sizeTests n b
+-- outputs that add no refusal 2 add no test
+same-tests : (n : ℕ) (b out : Buffers) → (badLength (2 ^ n) b || badLength (2 ^ n) out) ≡ badLength (2 ^ n) b → intoTests n b out ≡ sizeTests n b
 unfolding intoTests sizeTests
-same-tests n b out e = rw (or-false (badLength (2 ^ n) b) (badLength (2 ^ n) out) e)
+same-tests n b out e = rw e
 
 -- one call, from what is before it in two ways
 module _ (c : Call) (b out : Buffers) where
@@ -34,22 +36,41 @@ module _ (c : Call) (b out : Buffers) where
       by (some v) = refl
   same-left (suc k) = refl
 
-module _ (n : ℕ) (g : Gate) (b out : Buffers) (e : badLength (2 ^ n) out ≡ false) where
-  refusal : ℕ
-  refusal = first (sizeTests n b ++ callOf n g b .tests)
+module _ (n : ℕ) (g : Gate) (b out : Buffers) (e : (badLength (2 ^ n) b || badLength (2 ^ n) out) ≡ badLength (2 ^ n) b) where
+  abbrev c : Call
+  c = callOf n g b
 
-  abbrev is : into n g b out ≡ unless (first (sizeTests n b ++ callOf n g b .tests)) out (callOf n g b)
-  is = ap (λ ts. unless (first (ts ++ callOf n g b .tests)) out (callOf n g b)) (same-tests n b out e)
+  abbrev refusal : ℕ
+  refusal = first (sizeTests n b ++ c .tests)
 
-  pub into-says : into n g b out .says ≡ act n g b .says
-  into-says = ap (λ (o : Outcome). o .says) is ∙ same-says (callOf n g b) b out (first (sizeTests n b ++ callOf n g b .tests))
+  is : into n g b out ≡ unless refusal out c
+  is = ap (λ (ts : List Test). unless (first (ts ++ c .tests)) out c) (same-tests n b out e)
 
-  pub into-left : into n g b out .left ≡ cond (accepts (act n g b .says)) (act n g b .left) out
-  into-left = ap (λ (o : Outcome). o .left) is ∙ same-left (callOf n g b) b out (first (sizeTests n b ++ callOf n g b .tests))
+  into-says : into n g b out .says ≡ act n g b .says
+  into-says = ap (λ (o : Outcome). o .says) is ∙ same-says c b out refusal
+
+  into-left : into n g b out .left ≡ cond (accepts (act n g b .says)) (act n g b .left) out
+  into-left = ap (λ (o : Outcome). o .left) is ∙ same-left c b out refusal
+
+  module _ {slow : Answer} {out′ : Buffers} (d : Does (into n g b out) slow out′) where
+    pub same-answer : says slow ≡ act n g b .says
+    same-answer = d .answers ∙ into-says
+
+    pub same-places : out′ ≡ cond (accepts (says slow)) (act n g b .left) out
+    same-places = d .leaves ∙ into-left ∙ ap (λ (x : Said). cond (accepts x) (act n g b .left) out) (sym same-answer)
+
+    -- what was taken, written over what was there, is what the kernel leaves; what was refused leaves it
+    pub written-over : accepts (says slow) ≡ true → Does (act n g b) slow out′
+    written-over h = record { answers = same-answer; leaves = same-places ∙ ap (λ (x : Bool). cond x (act n g b .left) out) h }
+
+    pub left-alone : accepts (says slow) ≡ false → Does (act n g b) slow b
+    left-alone h = record { answers = same-answer; leaves = sym (refused-keeps b c (sizeTests n b) (ap accepts (sym same-answer) ∙ h)) }
 
 pub engines-agree : EnginesAgree
 engines-agree n g b out b′ out′ kernel slow e k s =
+    let no-more = or-false (badLength (2 ^ n) b) (badLength (2 ^ n) out) e in
+    let one = says-agree (same-answer n g b out no-more s) (k .answers) in
     (
-      says-agree (s .answers ∙ into-says n g b out e) (k .answers),
-      s .leaves ∙ into-left n g b out e ∙ rw (sym (k .answers), sym (k .leaves)) refl,
+      one,
+      same-places n g b out no-more s ∙ ap₂ (λ (x : Answer) (y : Buffers). cond (accepts (says x)) y out) one (sym (k .leaves)),
     )

@@ -80,11 +80,10 @@ module _ (n : ℕ) (b out : Buffers) where
       }
 
   ready : {us : List Test} {t u : ℕ} {c : Controls} → Passed us → Seated n t c b → u < n → Ready n t u b × Ready n t t out
-  ready p s l =
-      (
-        record { fits = s .fits; reals = s .reals; imags = s .imags; one = s .qubit; two = l },
-        record { fits = s .fits; reals = p .reals; imags = p .imags; one = s .qubit; two = s .qubit },
-      )
+  ready p s l = (
+    record { fits = s .fits; reals = s .reals; imags = s .imags; one = s .qubit; two = l },
+    record { fits = s .fits; reals = p .reals; imags = p .imags; one = s .qubit; two = s .qubit },
+  )
 
 -- ---- a gate that has a rule
 

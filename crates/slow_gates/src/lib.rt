@@ -67,7 +67,7 @@ fn own(rule: Rule) -> Answer
 }
 
 // A gate that has a rule: judged, and then every index of the outputs.
-fn on_pairs(
+pub fn on_pairs(
     sr: &[f64],
     si: &[f64],
     reals: &mut [f64],

@@ -15,8 +15,19 @@ returns c =
     let y1 = y .before in
     let x = y1 .before in
     let x1 = x .before in
-    rw (c .becomes .ensures, w .fused10 .ensures, w1 .fused9 .ensures, w2 .fused8 .ensures, z .fused7 .ensures, z1 .fused6 .ensures, z2 .fused5 .ensures,
-      y .fused4 .ensures, y1 .fused3 .ensures, x .fused2 .ensures, x1 .fused .ensures)
+    rw (
+      c .becomes .ensures,
+      w .fused10 .ensures,
+      w1 .fused9 .ensures,
+      w2 .fused8 .ensures,
+      z .fused7 .ensures,
+      z1 .fused6 .ensures,
+      z2 .fused5 .ensures,
+      y .fused4 .ensures,
+      y1 .fused3 .ensures,
+      x .fused2 .ensures,
+      x1 .fused .ensures,
+    )
 
 pub u-spec : {M : Type 1} → statement M
 u-spec =

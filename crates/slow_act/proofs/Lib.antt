@@ -1,0 +1,3 @@
+-- Copies: a list copied place by place. Over: into a second state and back is in place.
+pub mod Copies
+pub mod Over
