@@ -33,14 +33,22 @@ fn act(n: u32, gate: Gate, reals: &mut [f64], imags: &mut [f64]) -> Answer
     }
 }
 
-// By the engine that is asked for. Measuring has one kernel, and the slow engine has room for 11 qubits.
+// By the slow engine where it can be: measuring has one kernel, and the slow engine has room for 11 qubits.
+fn act_by_slow(n: u32, gate: Gate, reals: &mut [f64], imags: &mut [f64]) -> Answer
+    ensures { λ r. ⌜ Does (Book.act n gate (before reals imags)) r (after reals imags) ⌝ }
+{
+    match act_slowly(n, gate, reals, imags) {
+        Ran::Slowly(answer) => answer,
+        Ran::Not => act(n, gate, reals, imags),
+    }
+}
+
+// By the engine that is asked for.
 pub fn run(engine: Engine, n: u32, gate: Gate, reals: &mut [f64], imags: &mut [f64]) -> Answer
     ensures { λ r. ⌜ Does (Book.act n gate (before reals imags)) r (after reals imags) ⌝ }
 {
-    if let Engine::Slow = engine {
-        if let Ran::Slowly(answer) = act_slowly(n, gate, reals, imags) {
-            return answer;
-        }
+    match engine {
+        Engine::Fast => act(n, gate, reals, imags),
+        Engine::Slow => act_by_slow(n, gate, reals, imags),
     }
-    act(n, gate, reals, imags)
 }

@@ -52,13 +52,33 @@ no-more size {b} {out} s =
 
 -- ---- by what was run
 
+-- what a caller learns
+module _ {k : Bool} {o : Outcome} {b b′ : Buffers} {r : Ran} (w : Runs k o b r b′) where
+  pub was-run : {a : Answer} → r ≡ Slowly a → Does o a b′
+  was-run {a} e = by k (w .is)
+    where
+      by : (k : Bool) → RunsBy k o b r b′ → Does o a b′
+      by true v = subst (λ (x : Answer). Does o x b′) (let same : v .0 ≡ a = cc (e, v .1) in same) (v .2)
+      by false v = absurd (let z : _≡_ {A = ℕ} 0 1 = cc (e, v .0) in omega arith)
+
+  was-not : r ≡ Not → b′ ≡ b
+  was-not e = by k (w .is)
+    where
+      by : (k : Bool) → RunsBy k o b r b′ → b′ ≡ b
+      by true v = absurd (let z : _≡_ {A = ℕ} 0 1 = cc (e, v .1) in omega arith)
+      by false v = v .1
+
+  -- what was not run is left to a kernel
+  pub then-kernel : (n : ℕ) (g : Gate) {a : Answer} {b″ : Buffers} → r ≡ Not → Does (act n g b′) a b″ → Does (act n g b) a b″
+  then-kernel n g {a} {b″} e d = subst (λ (x : Buffers). Does (act n g x) a b″) (was-not e) d
+
 -- a gate that was run: what holds of the outputs holds of the state that they were written over
 ran : {k : Bool} {o o′ : Outcome} {b out b′ out′ : Buffers} {r : Ran} {a : Answer} → r ≡ Slowly a → Runs k o out r out′ → (Does o a out′ → Does o′ a b′)
     → Runs k o′ b (Slowly a) b′
 ran {k} {o} {o′} {b} {out} {b′} {out′} {r} {a} e w f = by k (w .is)
   where
     by : (k : Bool) → RunsBy k o out r out′ → Runs k o′ b (Slowly a) b′
-    by true v = record { is = (a, refl, f (subst (λ (x : Answer). Does o x out′) (let same : v .0 ≡ a = cc (e, v .1) in same) (v .2))) }
+    by true v = record { is = (a, refl, f (was-run w e)) }
     by false v = absurd (let z : _≡_ {A = ℕ} 0 1 = cc (e, v .0) in omega arith)
 
 module _ (n : ℕ) (g : Gate) {k : Bool} {b out out′ : Buffers} {r : Ran} {a : Answer} (s : SameSize b out) (e : r ≡ Slowly a)
