@@ -6,11 +6,11 @@ use Rattle.bench_run.proofs.take_input.Statement.{statement}
 use Rattle.bench_run.proofs.take_input.Tie as tie
 
 abbrev Inv-loop : tie.InvT-loop
-Inv-loop input reals₀ imags₀ chunk₀ out₀ end₀ open₀ turns₀ reals imags chunk out end «open» turns =
+Inv-loop engine input reals₀ imags₀ chunk₀ out₀ end₀ open₀ turns₀ reals imags chunk out end «open» turns =
     (length reals ≡ length reals₀) × (length imags ≡ length imags₀)
 
 abbrev μ-loop : tie.MeasureT-loop
-μ-loop input reals₀ imags₀ chunk₀ out₀ end₀ open₀ turns₀ reals imags chunk out end «open» turns = turns
+μ-loop engine input reals₀ imags₀ chunk₀ out₀ end₀ open₀ turns₀ reals imags chunk out end «open» turns = turns
 
 pub take-input-spec : {M : Type 1} → statement M
 take-input-spec =

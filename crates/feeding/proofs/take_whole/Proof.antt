@@ -15,13 +15,13 @@ use Rattle.feeding.proofs.take_whole.Tie as tie
 
 -- some answers were told of the bytes before `at`, and are in the list
 abbrev Inv-loop : tie.InvT-loop
-Inv-loop held₀ piece answers₀ reals₀ imags₀ session₀ kept₀ filled₀ at₀ held answers reals imags session kept filled at =
+Inv-loop engine held₀ piece answers₀ reals₀ imags₀ session₀ kept₀ filled₀ at₀ held answers reals imags session kept filled at =
     (t : List Answered)
     × Left (form (meant session₀) kept₀ held₀) (buffers reals₀ imags₀) piece at t (form (meant session) kept held) (buffers reals imags)
     × Filled answers₀ filled₀ t filled answers
 
 abbrev μ-loop : tie.MeasureT-loop
-μ-loop held₀ piece answers₀ reals₀ imags₀ session₀ kept₀ filled₀ at₀ held answers reals imags session kept filled at = length piece - at
+μ-loop engine held₀ piece answers₀ reals₀ imags₀ session₀ kept₀ filled₀ at₀ held answers reals imags session kept filled at = length piece - at
 
 loop-holds : tie.Need-loop-holds Inv-loop μ-loop
 loop-holds c = let start = c .before .before .before .before .before in ([], begins _ _ _, filled-none _ _ (start .pre))

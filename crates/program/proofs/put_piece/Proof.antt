@@ -18,12 +18,12 @@ abbrev run : Session → ℕ → List ℕ → ℕ → Run
 run s kept held index = record { index = index; form = form (meant s) kept held }
 
 abbrev Inv-loop : tie.InvT-loop
-Inv-loop piece out₀ behind reals₀ imags₀ session₀ kept₀ held₀ index₀ at₀ done₀ out reals imags session kept held index at done =
+Inv-loop engine piece out₀ behind reals₀ imags₀ session₀ kept₀ held₀ index₀ at₀ done₀ out reals imags session kept held index at done =
     (index₀ < 2 ^ 64) × (length piece < 2 ^ 64) × Going (run session₀ kept₀ held₀ index₀) (buffers reals₀ imags₀) piece out₀ behind done
     (run session kept held index) (buffers reals imags) at out
 
 abbrev μ-loop : tie.MeasureT-loop
-μ-loop piece out₀ behind reals₀ imags₀ session₀ kept₀ held₀ index₀ at₀ done₀ out reals imags session kept held index at done =
+μ-loop engine piece out₀ behind reals₀ imags₀ session₀ kept₀ held₀ index₀ at₀ done₀ out reals imags session kept held index at done =
     length piece - done
 
 put-told-requires : tie.Need-put-told-requires Inv-loop μ-loop

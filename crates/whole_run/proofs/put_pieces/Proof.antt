@@ -11,11 +11,11 @@ use Rattle.whole_run.proofs.put_pieces.Statement.{statement}
 use Rattle.whole_run.proofs.put_pieces.Tie as tie
 
 abbrev Inv-loop : tie.InvT-loop
-Inv-loop bytes out₀ reals₀ imags₀ next₀ at₀ done₀ out reals imags next at done =
+Inv-loop engine bytes out₀ reals₀ imags₀ next₀ at₀ done₀ out reals imags next at done =
     Part (runOf next₀) (buffers reals₀ imags₀) bytes out₀ done (runOf next) (buffers reals imags) at out
 
 abbrev μ-loop : tie.MeasureT-loop
-μ-loop bytes out₀ reals₀ imags₀ next₀ at₀ done₀ out reals imags next at done = length bytes - done
+μ-loop engine bytes out₀ reals₀ imags₀ next₀ at₀ done₀ out reals imags next at done = length bytes - done
 
 loop-again : tie.Need-loop-again Inv-loop μ-loop
 loop-again c =

@@ -15,14 +15,14 @@ use Rattle.feeding.proofs.Feed.take_all.Tie as tie
 
 -- some answers were told of the first `i` pieces, and are in the list
 abbrev Inv-loop : tie.InvT-loop
-Inv-loop bytes lengths answers₀ reals₀ imags₀ held₀ filling₀ at₀ i₀ answers reals imags held filling at i =
+Inv-loop engine bytes lengths answers₀ reals₀ imags₀ held₀ filling₀ at₀ i₀ answers reals imags held filling at i =
     (t : List Answered)
     × Pieces bytes lengths (form (meant (filling₀ .session)) (filling₀ .kept) held₀) (buffers reals₀ imags₀) at i t
     (form (meant (filling .session)) (filling .kept) held) (buffers reals imags)
     × Filled answers₀ 0 t (filling .filled) answers
 
 abbrev μ-loop : tie.MeasureT-loop
-μ-loop bytes lengths answers₀ reals₀ imags₀ held₀ filling₀ at₀ i₀ answers reals imags held filling at i = length lengths - i
+μ-loop engine bytes lengths answers₀ reals₀ imags₀ held₀ filling₀ at₀ i₀ answers reals imags held filling at i = length lengths - i
 
 take-whole-requires : tie.Need-take-whole-requires Inv-loop μ-loop
 take-whole-requires c κs =

@@ -10,11 +10,11 @@ use Rattle.sessions.proofs.Session.deliver_all.Statement.{statement}
 use Rattle.sessions.proofs.Session.deliver_all.Tie as tie
 
 abbrev Inv-loop : tie.InvT-loop
-Inv-loop bytes lengths reals₀ imags₀ session₀ at₀ i₀ reals imags session at i =
+Inv-loop engine bytes lengths reals₀ imags₀ session₀ at₀ i₀ reals imags session at i =
     Left bytes lengths (bench (meant session₀) (buffers reals₀ imags₀)) at i (bench (meant session) (buffers reals imags))
 
 abbrev μ-loop : tie.MeasureT-loop
-μ-loop bytes lengths reals₀ imags₀ session₀ at₀ i₀ reals imags session at i = length lengths - i
+μ-loop engine bytes lengths reals₀ imags₀ session₀ at₀ i₀ reals imags session at i = length lengths - i
 
 loop-again : tie.Need-loop-again Inv-loop μ-loop
 loop-again c =
