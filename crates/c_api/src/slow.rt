@@ -7,7 +7,7 @@ use book::Gate;
 use book::Noise;
 ghost use Rattle.book.specs.Lent.{before, after};
 ghost use Rattle.book.specs.State.{controlled};
-ghost use Rattle.slow_gates.specs.Into.{into};
+ghost use Rattle.into.specs.Into.{into};
 ghost use Rattle.c_api.specs.Tells.{Tells, eight};
 
 // s0 and s1 exchanged; any number of controls.

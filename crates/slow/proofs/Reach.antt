@@ -7,6 +7,7 @@ use native.Mathlib.Nat.{mod-eq-of-lt}
 use native.Mathlib.Omega.{arith}
 use borrow.Author.Tests.{eq-eqb, ne-eqb}
 use lib.Bits.{bitAnd}
+use lib.ListN.{length}
 use lib.Pow.{pow-lt}
 use Rattle.book.proofs.Bits.{bit-lt, bit-le, halves, up-lt}
 use Rattle.book.proofs.Places.{placed-lower, placed-upper}
@@ -20,6 +21,7 @@ use Rattle.book.specs.declared.Pair.{Pair}
 use Rattle.matrices.proofs.Fills.{held-next}
 use Rattle.matrices.specs.Filled.{Holds, Filled}
 use Rattle.seated.proofs.Shifts.{shl, shl-is, pow-le}
+use Rattle.seated.specs.Judging.{Seated}
 use Rattle.slow.specs.Slow.{secondOf, There, Ready, Reaches}
 use Rattle.slow.specs.declared.Deed.{Deed}
 use Rattle.slow.specs.declared.Deed.the-variants.{Swap}
@@ -62,6 +64,14 @@ module _ {n target second : ℕ} {b : Buffers} (r : Ready n target second b) whe
 
   pub room-for : {i : ℕ} {f : State} {b′ : Buffers} → i < shl n → Filled 0 i f b b′ → Holds (i + 1) b′
   room-for l w = held-next l w (record { reals = omega (arith, size, r .reals); imags = omega (arith, size, r .imags) })
+
+-- inputs that were judged, and outputs of their length
+pub both-ready : {n t u : ℕ} {c : Controls} {b out : Buffers} → Seated n t c b → u < n → length (out .reals) ≡ 2 ^ n → length (out .imags) ≡ 2 ^ n
+    → Ready n t u b × Ready n t t out
+both-ready s l re im = (
+  record { fits = s .fits; reals = s .reals; imags = s .imags; one = s .qubit; two = l },
+  record { fits = s .fits; reals = re; imags = im; one = s .qubit; two = s .qubit },
+)
 
 -- the second qubit of SWAP
 pub swap-reaches : (d : Deed) {target u : ℕ} {b : Buffers} {i : ℕ} → d ≡ Swap u → Reaches target (secondOf d target) b i → Reaches target u b i

@@ -3,26 +3,12 @@ use Prim.Native.Nat.{ℕ, _^_, _≤_, _<_}
 use mathlib.Core.Path.{_≡_}
 use lib.ListN.{length}
 use Rattle.book.specs.Answers.{Buffers}
-use Rattle.book.specs.Gates.{xRule, yRule, zRule, hRule, pRule, rxRule, ryRule, rzRule, uMatrix, uRule}
 use Rattle.book.specs.Kernels.{exchanged}
 use Rattle.book.specs.State.{State, placed}
 use Rattle.book.specs.declared.Controls.{Controls}
-use Rattle.book.specs.declared.Pair.{Pair}
+use Rattle.slow_rules.specs.Rules.{ruleOf}
 use Rattle.slow.specs.declared.Deed.{Deed}
 use Rattle.slow.specs.declared.Deed.the-variants.{Nothing, Pairs, Swap}
-use Rattle.slow.specs.declared.Rule.{Rule}
-use Rattle.slow.specs.declared.Rule.the-variants.{H, X, Y, Z, P, Rx, Ry, Rz, U}
-
-abbrev pub ruleOf : Rule → Pair → Pair
-ruleOf H = hRule
-ruleOf X = xRule
-ruleOf Y = yRule
-ruleOf Z = zRule
-ruleOf (P angle) = pRule angle
-ruleOf (Rx angle) = rxRule angle
-ruleOf (Ry angle) = ryRule angle
-ruleOf (Rz angle) = rzRule angle
-ruleOf (U angles) = uRule (uMatrix angles)
 
 -- the state after a deed
 abbrev pub leaves : Deed → ℕ → Controls → State → State

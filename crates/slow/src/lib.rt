@@ -1,32 +1,17 @@
 // The slow engine: what a gate leaves at an index, worked out for that index alone in document 01's words, from input buffers to separate output buffers.
 // It goes by the book and by F: no pairs, no blocks, and no loop, choice or store of the kernels. Crate slow_gates has its calls.
 // An inner room: what it asks its caller has tested, and that is proved.
-mod rules;
-
 use book::Amplitude;
-use book::Angle;
-use book::Angles;
 use book::Controls;
-use rules::put;
+use slow_rules::Rule;
+use slow_rules::put;
 ghost use mathlib.Core.Path.{_≡_};
 ghost use Prim.Native.Nat.{_^_, _<_};
 ghost use Rattle.book.specs.Kernels as Book;
 ghost use Rattle.book.specs.Lent.{before, after, here};
 ghost use Rattle.book.specs.State.{at, held, placed};
-ghost use Rattle.slow.specs.Slow.{ruleOf, leaves, secondOf, There, Ready, Reaches};
-
-// The gates that have a rule, with the numbers that each is fed.
-pub enum Rule {
-    H,
-    X,
-    Y,
-    Z,
-    P(Angle),
-    Rx(Angle),
-    Ry(Angle),
-    Rz(Angle),
-    U(Angles),
-}
+ghost use Rattle.slow_rules.specs.Rules.{ruleOf};
+ghost use Rattle.slow.specs.Slow.{leaves, secondOf, There, Ready, Reaches};
 
 // What a gate does to the state: nothing, its rule to the chosen pairs, or the target exchanged with a second qubit.
 pub enum Deed {

@@ -16,8 +16,8 @@ use Rattle.book.specs.Lent.{SameSize}
 use Rattle.book.specs.declared.Answer.{Answer}
 use Rattle.book.specs.declared.Gate.{Gate}
 use Rattle.book.specs.declared.Gate.the-variants.{H, X, Y, Z, P, Rx, Ry, Rz, U, Swap, Measure, BitFlip}
-use Rattle.slow_gates.proofs.Engines.{written-over, left-alone}
-use Rattle.slow_gates.specs.Into.{intoTests, into}
+use Rattle.into.proofs.Engines.{written-over, left-alone}
+use Rattle.into.specs.Into.{intoTests, into}
 use Rattle.slow_act.specs.Runs.{askedOf, can, callFor, hasRoom, RunsBy, Runs}
 use Rattle.slow_act.specs.declared.Ran.{Ran}
 use Rattle.slow_act.specs.declared.Ran.the-variants.{Slowly, Not}
@@ -47,7 +47,7 @@ or-same false = refl
 no-more : (size : ℕ) {b out : Buffers} → SameSize b out → (badLength size b || badLength size out) ≡ badLength size b
 no-more size {b} {out} s =
     let e : badLength size out ≡ badLength size b =
-        ap₂ (λ (x y : ℕ). not (eqb x size) || not (eqb y size)) (s .reals) (s .imags) in
+    ap₂ (λ (x y : ℕ). not (eqb x size) || not (eqb y size)) (s .reals) (s .imags) in
     ap (λ (x : Bool). badLength size b || x) e ∙ or-same (badLength size b)
 
 -- ---- by what was run

@@ -11,12 +11,12 @@ use Rattle.book.specs.Kernels.{swapCall, bitFlipCall}
 use Rattle.book.specs.declared.Answer.{Answer}
 use Rattle.book.specs.declared.Gate.{Gate}
 use Rattle.book.specs.declared.Gate.the-variants.{H, X, Y, Z, P, Rx, Ry, Rz, U, Swap, Measure, BitFlip}
-use Rattle.slow.specs.declared.Rule.the-variants as Rule
+use Rattle.slow_rules.specs.declared.Rule.the-variants as Rule
 use Rattle.slow_act.specs.declared.Asked.{Asked}
 use Rattle.slow_act.specs.declared.Asked.the-variants.{Pairs, Swap as Exchange, Flip, Not as Nothing}
 use Rattle.slow_act.specs.declared.Ran.{Ran}
 use Rattle.slow_act.specs.declared.Ran.the-variants.{Slowly, Not}
-use Rattle.slow_gates.specs.Rows.{ruleCall}
+use Rattle.slow_pairs.specs.Rows.{ruleCall}
 
 -- a gate as the engine is asked for it: it has no call for measuring
 abbrev pub askedOf : Gate → Asked

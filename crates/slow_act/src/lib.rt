@@ -3,17 +3,17 @@ use book::Answer;
 use book::Controls;
 use book::Gate;
 use book::Noise;
-use slow::Rule;
-use slow_gates::bit_flip_noise_apply;
-use slow_gates::on_pairs;
-use slow_gates::swap_apply;
+use slow_pairs::on_pairs;
+use slow_rules::Rule;
+use slow_swaps::bit_flip_noise_apply;
+use slow_swaps::swap_apply;
 ghost use mathlib.Core.Bool.{_&&_};
 ghost use mathlib.Core.Path.{_≡_};
 ghost use lib.ListN.{length};
 ghost use Rattle.book.specs.Calls.{act};
 ghost use Rattle.book.specs.Answers.{says, outcomeOf, accepts};
 ghost use Rattle.book.specs.Lent.{before, after, here, SameSize};
-ghost use Rattle.slow_gates.specs.Into.{intoTests};
+ghost use Rattle.into.specs.Into.{intoTests};
 ghost use Rattle.slow_act.specs.Runs.{askedOf, can, callFor, hasRoom, Runs};
 
 // The second state has room for 11 qubits, which are the most in the program.

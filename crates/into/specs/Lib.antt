@@ -1,0 +1,2 @@
+-- A gate from one state into another.
+pub mod Into

@@ -1,3 +1,0 @@
--- A gate from one state into another, and the gates that have a rule.
-pub mod Into
-pub mod Rows

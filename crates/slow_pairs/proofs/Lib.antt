@@ -1,0 +1,2 @@
+-- Judged: a gate that has a rule, judged.
+pub mod Judged

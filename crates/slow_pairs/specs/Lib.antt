@@ -1,0 +1,2 @@
+-- The gates that have a rule.
+pub mod Rows

@@ -1,0 +1,2 @@
+-- The rule that a value of Rule names.
+pub mod Rules

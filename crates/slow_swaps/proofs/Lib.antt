@@ -1,0 +1,2 @@
+-- Judged: SWAP and the bit flip, judged.
+pub mod Judged
