@@ -3,7 +3,7 @@
 
   bench_model.py run < INPUT > OUTPUT        what the program must print
   bench_model.py make NAME [SEED] > INPUT    an input; `bench_model.py names` lists the names
-  bench_model.py store DIR [SEED]            all of them, as DIR/crates/gate_bench/stdin and stdout and DIR/crates/stored_runs/data, args and stdout;
+  bench_model.py store DIR [SEED]            all of them, as stdin and stdout of DIR/crates/gate_bench and slow_bench, and DIR/crates/stored_runs/data, args and stdout;
                                              those that cut_streams takes apart as DIR/crates/cut_streams/data, args and stdout
 """
 import math, os, random, struct, sys
@@ -659,16 +659,22 @@ def put(folder, name, data):
         f.write(data)
 
 
+def both(name, lines):
+    """Each run by the kernels, and then by the slow engine."""
+    return f'{name}:\n{lines}{name} by the slow engine:\n{lines}'
+
+
 def store(crates, seed):
-    """The sample as gate_bench's standard input; the others as files of stored_runs, which prints each under its name."""
+    """The sample as the two programs' standard input; the others as files of stored_runs, which prints each under its name."""
     made = {name: make(seed) for name, make in MAKE.items()}
     sample = made.pop('gate_bench')
-    put(os.path.join(crates, 'gate_bench'), 'stdin', sample)
-    put(os.path.join(crates, 'gate_bench'), 'stdout', answer(sample).encode())
+    for program in 'gate_bench', 'slow_bench':
+        put(os.path.join(crates, program), 'stdin', sample)
+        put(os.path.join(crates, program), 'stdout', answer(sample).encode())
     for name, data in made.items():
         put(os.path.join(crates, 'stored_runs', 'data'), name, data)
     put(os.path.join(crates, 'stored_runs'), 'args', ''.join(name + '\n' for name in made).encode())
-    put(os.path.join(crates, 'stored_runs'), 'stdout', ''.join(name + ':\n' + answer(data) for name, data in made.items()).encode())
+    put(os.path.join(crates, 'stored_runs'), 'stdout', ''.join(both(name, answer(data)) for name, data in made.items()).encode())
     store_apart(crates, made)
 
 

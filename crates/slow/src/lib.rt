@@ -45,12 +45,13 @@ fn place_of_pair(
 {
     let ones = controls.ones as usize;
     let bit: usize = 1 << target;
+    let above = i + bit;
     let own = amplitude_at(reals, imags, i);
     if i & ones != ones {
         return own;
     }
     if (i >> target) % 2 == 0 {
-        let both = put(rule, own, amplitude_at(reals, imags, i + bit));
+        let both = put(rule, own, amplitude_at(reals, imags, above));
         return both.s0;
     }
     let both = put(rule, amplitude_at(reals, imags, i - bit), own);

@@ -24,7 +24,7 @@ write-closing-requires c κs =
     let closed = c .before .before .before .before in
     let taken = closed .before .before .before .before in
     let called = taken .before .before .before .before .before in
-    omega (arith, short (called .pre), taken .take-input .kept .1 .1 .0)
+    omega (arith, short (called .pre), taken .take-input .kept .1 .1 .1 .0)
 
 pub run-session-spec : {M : Type 1} → statement M
 run-session-spec =

@@ -39,10 +39,10 @@ place-of-pair-spec =
     (tie.spec
     (λ c. search needs)
     (λ c. search needs)
+    (λ c. let r = c .before .before .before .pre in rw (power r) (record { fits = omega (arith, room r) }))
     (λ c κs. search needs)
     returns
     (λ c. search needs)
-    (λ half. let r = start (half .before .before) .pre in rw (power r) (record { fits = omega (arith, room r) }))
     (λ half κs. let r = start (half .before .before) .pre in rw (power r) (above r (half .if2 .taken)))
     (λ c κs. search needs)
     returns-2
