@@ -17,6 +17,8 @@ struct Row {
     nan: u64,
     chance: u64,
     other_way: u64,
+    slow: u64,
+    slow_different: u64,
 }
 
 pub struct Tally {
@@ -38,13 +40,17 @@ impl Tally {
 
     fn different(&mut self, name: &str, what: &str) {
         self.row(name).different += 1;
+        self.show(what);
+    }
+
+    fn show(&mut self, what: &str) {
         self.shown += 1;
         if self.shown <= SHOWN {
             println!("DIFFERENT: {what}");
         }
     }
 
-    /// One call on one state: by the kernel, and as a record delivered to a session.
+    /// One call on one state: by the kernel, as a record delivered to a session, and by the slow engine.
     fn call(&mut self, call: &Call, reals: &[f64], imags: &[f64]) {
         let name = call.gate.name();
         if !both_ways(call, reals, imags) {
@@ -73,6 +79,19 @@ impl Tally {
         if !agree || !again || answer != expected(call) || delivered != ours::as_reply(answer) {
             let numbers = call.gate.numbers();
             self.different(name, &format!("{call} {numbers:?} answer {answer:?} delivered {delivered:?} reals {reals:?} imags {imags:?}"));
+        }
+        self.slow(call, reals, imags, &(theirs.reals, theirs.imags));
+    }
+
+    /// The slow engine has no measuring.
+    fn slow(&mut self, call: &Call, reals: &[f64], imags: &[f64], theirs: &Parts) {
+        let Some((answer, left)) = ours::run_slow(call, reals, imags) else { return };
+        let row = self.row(call.gate.name());
+        row.slow += 1;
+        if answer != expected(call) || !matrices::agree(theirs, &left) {
+            row.slow_different += 1;
+            let numbers = call.gate.numbers();
+            self.show(&format!("by the slow engine {call} {numbers:?} answer {answer:?} reals {reals:?} imags {imags:?}"));
         }
     }
 
@@ -187,6 +206,15 @@ fn all_matrices(tally: &mut Tally, random: &mut Random) {
     }
 }
 
+/// What the slow engine ran and how much of it differed, or nothing where it has no such call.
+fn by_the_slow(row: &Row) -> String {
+    if row.slow == 0 {
+        " |".to_string()
+    } else {
+        format!("{} | {}", row.slow, row.slow_different)
+    }
+}
+
 /// Prints the table, and says whether nothing differed.
 pub fn run(seed: u64) -> bool {
     let mut random = Random(seed);
@@ -194,17 +222,25 @@ pub fn run(seed: u64) -> bool {
     small(&mut tally, &mut random);
     large(&mut tally, &mut random);
     all_matrices(&mut tally, &mut random);
-    println!("| call | compared | different | outside: NaN came out | outside: impossible outcome | outside: 1-p0 is not p1 |\n|---|---|---|---|---|---|");
+    println!(
+        "| call | compared | different | by the slow engine | different \
+        | outside: NaN came out | outside: impossible outcome | outside: 1-p0 is not p1 |\n|---|---|---|---|---|---|---|---|"
+    );
     let (mut cases, mut different, mut outside, mut other_way) = (0, 0, 0, 0);
+    let (mut slow, mut slow_different) = (0, 0);
     for (name, row) in &tally.rows {
-        println!("| {name} | {} | {} | {} | {} | {} |", row.cases, row.different, row.nan, row.chance, row.other_way);
+        let by_the_slow = by_the_slow(row);
+        println!("| {name} | {} | {} | {by_the_slow} | {} | {} | {} |", row.cases, row.different, row.nan, row.chance, row.other_way);
         cases += row.cases;
         different += row.different;
+        slow += row.slow;
+        slow_different += row.slow_different;
         other_way += row.other_way;
         outside += row.nan + row.chance + row.other_way;
     }
     println!("\nOutcome 1: {} kept, where 1-p0 and the sum have equal bits; {other_way} left out, where they have not.", tally.ones);
     println!("Outside the domain and not made: a NaN put in, more than one control, two threads, measuring where a square or a partial sum is inexact.");
     println!("seed {seed}: {cases} cases compared bit for bit, {different} different; {outside} made and left out as outside the domain");
-    different == 0
+    println!("by the slow engine: {slow} of these cases, every one but measuring and matrices, {slow_different} different");
+    different == 0 && slow_different == 0
 }

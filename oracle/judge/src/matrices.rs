@@ -20,7 +20,8 @@ fn taken_of(unitary: &Unitary) -> Parts {
     (reals.to_vec(), imags.to_vec())
 }
 
-fn blank(size: usize) -> Parts {
+/// What buffers hold before they are filled.
+pub fn blank(size: usize) -> Parts {
     (vec![0.5; size], vec![0.5; size])
 }
 

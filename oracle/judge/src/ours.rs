@@ -1,7 +1,8 @@
 //! A call run by the archive, through the Rust crate over it.
 use crate::calls::{Call, Gate};
+use crate::matrices::{blank, Parts};
 use gate_bench as bench;
-use gate_bench::{Angle, Angles, Answer, Forced, Noise, Record, Reply, Session};
+use gate_bench::{slow, Angle, Angles, Answer, Forced, Noise, Record, Reply, Session};
 
 /// The session that a call is delivered to.
 const NUMBER: u32 = 7;
@@ -35,6 +36,33 @@ pub fn run_with(call: &Call, v: &[f64], reals: &mut [f64], imags: &mut [f64]) ->
         Gate::Measure(outcome, reset) => bench::measure_qubit(reals, imags, n, target, Forced { outcome, reset }),
         Gate::BitFlip(..) => bench::bit_flip_noise_apply(reals, imags, n, target, Noise { prob: v[0], draw: v[1] }),
     }
+}
+
+/// By the slow engine, from a state into buffers of its own. None for measuring, which it does not have.
+pub fn run_slow_with(call: &Call, v: &[f64], reals: &[f64], imags: &[f64], out: &mut Parts) -> Option<Answer> {
+    let (n, target, ones) = (call.n, call.target, call.ones());
+    let (re, im) = (&mut out.0[..], &mut out.1[..]);
+    Some(match call.gate {
+        Gate::X => slow::x_apply(reals, imags, re, im, n, target, ones),
+        Gate::Y => slow::y_apply(reals, imags, re, im, n, target, ones),
+        Gate::Z => slow::z_apply(reals, imags, re, im, n, target, ones),
+        Gate::H => slow::h_apply(reals, imags, re, im, n, target, ones),
+        Gate::P(_) => slow::p_apply(reals, imags, re, im, n, target, ones, angle(v)),
+        Gate::Rx(_) => slow::rx_apply(reals, imags, re, im, n, target, ones, angle(v)),
+        Gate::Ry(_) => slow::ry_apply(reals, imags, re, im, n, target, ones, angle(v)),
+        Gate::Rz(_) => slow::rz_apply(reals, imags, re, im, n, target, ones, angle(v)),
+        Gate::U(..) => slow::u_apply(reals, imags, re, im, n, target, ones, angles(v)),
+        Gate::Swap(second) => slow::swap_apply(reals, imags, re, im, n, target, second),
+        Gate::BitFlip(..) => slow::bit_flip_noise_apply(reals, imags, re, im, n, target, Noise { prob: v[0], draw: v[1] }),
+        Gate::Measure(..) => return None,
+    })
+}
+
+/// What the slow engine answers and leaves; the buffers that it is lent hold something else before.
+pub fn run_slow(call: &Call, reals: &[f64], imags: &[f64]) -> Option<(Answer, Parts)> {
+    let mut out = blank(reals.len());
+    let answer = run_slow_with(call, &call.gate.numbers(), reals, imags, &mut out)?;
+    Some((answer, out))
 }
 
 fn gate_of(call: &Call) -> bench::Gate {

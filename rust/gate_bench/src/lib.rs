@@ -38,6 +38,8 @@
 //! }
 //! ```
 //!
+//! [`slow`] has the gates once more, from input buffers into output buffers, for acceptance days: the same answers and bits.
+//!
 //! What this crate cannot see to: the thread that calls has the processor's floating-point settings as a program starts with
 //! them, rounding to nearest and with subnormals. A C part that was linked with `-ffast-math`, or that changed the rounding
 //! direction, may have changed them, and then results differ: [`environment_is_default`] tells.
@@ -53,6 +55,7 @@ mod gates;
 mod matrices;
 mod records;
 mod sessions;
+pub mod slow;
 mod streams;
 
 pub use answers::{Answer, Refusal, Reply};
