@@ -143,45 +143,40 @@ uint32_t gate_bench_measure_qubit(double *reals, size_t reals_len, double *imags
 
 /* ---- the slow engine: the gates once more, as text that can be held beside the rule book, for acceptance days */
 
-/* A gate from input buffers into output buffers, each place worked out by itself in the book's words: no pairs, no blocks. A call
- * answers as the gate's call above does, and leaves in the outputs what that one leaves in its buffers, bit for bit, whatever the
- * inputs hold; one NaN counts as another. A bit flip that does not run copies. The inputs are not touched. The outputs must have
- * 2^n places too: that is tested with the inputs, so it answers 2 before 3. A refusal leaves the outputs untouched. No output may
- * overlap another of the four buffers. It is slower than the calls above. Measuring has no call here: its one kernel serves. */
-uint32_t gate_bench_slow_x_apply(const double *reals, size_t reals_len, const double *imags, size_t imags_len, double *out_reals,
-                            size_t out_reals_len, double *out_imags, size_t out_imags_len, uint32_t n, uint32_t target,
-                            uint32_t ones);
-uint32_t gate_bench_slow_y_apply(const double *reals, size_t reals_len, const double *imags, size_t imags_len, double *out_reals,
-                            size_t out_reals_len, double *out_imags, size_t out_imags_len, uint32_t n, uint32_t target,
-                            uint32_t ones);
-uint32_t gate_bench_slow_z_apply(const double *reals, size_t reals_len, const double *imags, size_t imags_len, double *out_reals,
-                            size_t out_reals_len, double *out_imags, size_t out_imags_len, uint32_t n, uint32_t target,
-                            uint32_t ones);
-uint32_t gate_bench_slow_h_apply(const double *reals, size_t reals_len, const double *imags, size_t imags_len, double *out_reals,
-                            size_t out_reals_len, double *out_imags, size_t out_imags_len, uint32_t n, uint32_t target,
-                            uint32_t ones);
-uint32_t gate_bench_slow_p_apply(const double *reals, size_t reals_len, const double *imags, size_t imags_len, double *out_reals,
-                            size_t out_reals_len, double *out_imags, size_t out_imags_len, uint32_t n, uint32_t target,
-                            uint32_t ones, double cosine, double sine);
-uint32_t gate_bench_slow_rx_apply(const double *reals, size_t reals_len, const double *imags, size_t imags_len, double *out_reals,
-                            size_t out_reals_len, double *out_imags, size_t out_imags_len, uint32_t n, uint32_t target,
-                            uint32_t ones, double cosine, double sine);
-uint32_t gate_bench_slow_ry_apply(const double *reals, size_t reals_len, const double *imags, size_t imags_len, double *out_reals,
-                            size_t out_reals_len, double *out_imags, size_t out_imags_len, uint32_t n, uint32_t target,
-                            uint32_t ones, double cosine, double sine);
-uint32_t gate_bench_slow_rz_apply(const double *reals, size_t reals_len, const double *imags, size_t imags_len, double *out_reals,
-                            size_t out_reals_len, double *out_imags, size_t out_imags_len, uint32_t n, uint32_t target,
-                            uint32_t ones, double cosine, double sine);
-uint32_t gate_bench_slow_u_apply(const double *reals, size_t reals_len, const double *imags, size_t imags_len, double *out_reals,
-                            size_t out_reals_len, double *out_imags, size_t out_imags_len, uint32_t n, uint32_t target,
-                            uint32_t ones, double ct, double st, double cl, double sl, double cpl, double spl, double cp,
-                            double sp);
-uint32_t gate_bench_slow_swap_apply(const double *reals, size_t reals_len, const double *imags, size_t imags_len,
-                            double *out_reals, size_t out_reals_len, double *out_imags, size_t out_imags_len, uint32_t n,
-                            uint32_t t0, uint32_t t1);
-uint32_t gate_bench_slow_bit_flip_noise_apply(const double *reals, size_t reals_len, const double *imags, size_t imags_len,
-                            double *out_reals, size_t out_reals_len, double *out_imags, size_t out_imags_len, uint32_t n,
-                            uint32_t target, double prob, double draw);
+/* A gate from input buffers, sr and si, into output buffers, reals and imags, each place worked out by itself in the book's
+ * words: no pairs, no blocks. A call answers as the gate's call above does, and leaves in the outputs what that one leaves in its
+ * buffers, bit for bit, whatever the inputs hold; one NaN counts as another. A bit flip that does not run copies. The inputs are
+ * not touched. The outputs must have 2^n places too: that is tested with the inputs, so it answers 2 before 3. A refusal leaves
+ * the outputs untouched. No output may overlap another of the four buffers. It is slower than the calls above. Measuring has no
+ * call here: its one kernel serves. */
+uint32_t gate_bench_slow_x_apply(const double *sr, size_t sr_len, const double *si, size_t si_len, double *reals,
+                            size_t reals_len, double *imags, size_t imags_len, uint32_t n, uint32_t target, uint32_t ones);
+uint32_t gate_bench_slow_y_apply(const double *sr, size_t sr_len, const double *si, size_t si_len, double *reals,
+                            size_t reals_len, double *imags, size_t imags_len, uint32_t n, uint32_t target, uint32_t ones);
+uint32_t gate_bench_slow_z_apply(const double *sr, size_t sr_len, const double *si, size_t si_len, double *reals,
+                            size_t reals_len, double *imags, size_t imags_len, uint32_t n, uint32_t target, uint32_t ones);
+uint32_t gate_bench_slow_h_apply(const double *sr, size_t sr_len, const double *si, size_t si_len, double *reals,
+                            size_t reals_len, double *imags, size_t imags_len, uint32_t n, uint32_t target, uint32_t ones);
+uint32_t gate_bench_slow_p_apply(const double *sr, size_t sr_len, const double *si, size_t si_len, double *reals,
+                            size_t reals_len, double *imags, size_t imags_len, uint32_t n, uint32_t target, uint32_t ones,
+                            double cosine, double sine);
+uint32_t gate_bench_slow_rx_apply(const double *sr, size_t sr_len, const double *si, size_t si_len, double *reals,
+                            size_t reals_len, double *imags, size_t imags_len, uint32_t n, uint32_t target, uint32_t ones,
+                            double cosine, double sine);
+uint32_t gate_bench_slow_ry_apply(const double *sr, size_t sr_len, const double *si, size_t si_len, double *reals,
+                            size_t reals_len, double *imags, size_t imags_len, uint32_t n, uint32_t target, uint32_t ones,
+                            double cosine, double sine);
+uint32_t gate_bench_slow_rz_apply(const double *sr, size_t sr_len, const double *si, size_t si_len, double *reals,
+                            size_t reals_len, double *imags, size_t imags_len, uint32_t n, uint32_t target, uint32_t ones,
+                            double cosine, double sine);
+uint32_t gate_bench_slow_u_apply(const double *sr, size_t sr_len, const double *si, size_t si_len, double *reals,
+                            size_t reals_len, double *imags, size_t imags_len, uint32_t n, uint32_t target, uint32_t ones,
+                            double ct, double st, double cl, double sl, double cpl, double spl, double cp, double sp);
+uint32_t gate_bench_slow_swap_apply(const double *sr, size_t sr_len, const double *si, size_t si_len, double *reals,
+                            size_t reals_len, double *imags, size_t imags_len, uint32_t n, uint32_t t0, uint32_t t1);
+uint32_t gate_bench_slow_bit_flip_noise_apply(const double *sr, size_t sr_len, const double *si, size_t si_len, double *reals,
+                            size_t reals_len, double *imags, size_t imags_len, uint32_t n, uint32_t target, double prob,
+                            double draw);
 
 /* ---- matrices of side 2^n, n from 1 to 6 */
 

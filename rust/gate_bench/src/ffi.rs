@@ -30,33 +30,33 @@ mod declared {
             prob: f64, draw: f64) -> u32;
         pub fn gate_bench_measure_qubit(reals: *mut f64, reals_len: usize, imags: *mut f64, imags_len: usize, n: u32, target: u32,
             outcome: u8, reset: u8) -> u32;
-        pub fn gate_bench_slow_x_apply(reals: *const f64, reals_len: usize, imags: *const f64, imags_len: usize, out_reals: *mut f64,
-            out_reals_len: usize, out_imags: *mut f64, out_imags_len: usize, n: u32, target: u32, ones: u32) -> u32;
-        pub fn gate_bench_slow_y_apply(reals: *const f64, reals_len: usize, imags: *const f64, imags_len: usize, out_reals: *mut f64,
-            out_reals_len: usize, out_imags: *mut f64, out_imags_len: usize, n: u32, target: u32, ones: u32) -> u32;
-        pub fn gate_bench_slow_z_apply(reals: *const f64, reals_len: usize, imags: *const f64, imags_len: usize, out_reals: *mut f64,
-            out_reals_len: usize, out_imags: *mut f64, out_imags_len: usize, n: u32, target: u32, ones: u32) -> u32;
-        pub fn gate_bench_slow_h_apply(reals: *const f64, reals_len: usize, imags: *const f64, imags_len: usize, out_reals: *mut f64,
-            out_reals_len: usize, out_imags: *mut f64, out_imags_len: usize, n: u32, target: u32, ones: u32) -> u32;
-        pub fn gate_bench_slow_p_apply(reals: *const f64, reals_len: usize, imags: *const f64, imags_len: usize, out_reals: *mut f64,
-            out_reals_len: usize, out_imags: *mut f64, out_imags_len: usize, n: u32, target: u32, ones: u32, cosine: f64,
+        pub fn gate_bench_slow_x_apply(sr: *const f64, sr_len: usize, si: *const f64, si_len: usize, reals: *mut f64,
+            reals_len: usize, imags: *mut f64, imags_len: usize, n: u32, target: u32, ones: u32) -> u32;
+        pub fn gate_bench_slow_y_apply(sr: *const f64, sr_len: usize, si: *const f64, si_len: usize, reals: *mut f64,
+            reals_len: usize, imags: *mut f64, imags_len: usize, n: u32, target: u32, ones: u32) -> u32;
+        pub fn gate_bench_slow_z_apply(sr: *const f64, sr_len: usize, si: *const f64, si_len: usize, reals: *mut f64,
+            reals_len: usize, imags: *mut f64, imags_len: usize, n: u32, target: u32, ones: u32) -> u32;
+        pub fn gate_bench_slow_h_apply(sr: *const f64, sr_len: usize, si: *const f64, si_len: usize, reals: *mut f64,
+            reals_len: usize, imags: *mut f64, imags_len: usize, n: u32, target: u32, ones: u32) -> u32;
+        pub fn gate_bench_slow_p_apply(sr: *const f64, sr_len: usize, si: *const f64, si_len: usize, reals: *mut f64,
+            reals_len: usize, imags: *mut f64, imags_len: usize, n: u32, target: u32, ones: u32, cosine: f64,
             sine: f64) -> u32;
-        pub fn gate_bench_slow_rx_apply(reals: *const f64, reals_len: usize, imags: *const f64, imags_len: usize, out_reals: *mut f64,
-            out_reals_len: usize, out_imags: *mut f64, out_imags_len: usize, n: u32, target: u32, ones: u32, cosine: f64,
+        pub fn gate_bench_slow_rx_apply(sr: *const f64, sr_len: usize, si: *const f64, si_len: usize, reals: *mut f64,
+            reals_len: usize, imags: *mut f64, imags_len: usize, n: u32, target: u32, ones: u32, cosine: f64,
             sine: f64) -> u32;
-        pub fn gate_bench_slow_ry_apply(reals: *const f64, reals_len: usize, imags: *const f64, imags_len: usize, out_reals: *mut f64,
-            out_reals_len: usize, out_imags: *mut f64, out_imags_len: usize, n: u32, target: u32, ones: u32, cosine: f64,
+        pub fn gate_bench_slow_ry_apply(sr: *const f64, sr_len: usize, si: *const f64, si_len: usize, reals: *mut f64,
+            reals_len: usize, imags: *mut f64, imags_len: usize, n: u32, target: u32, ones: u32, cosine: f64,
             sine: f64) -> u32;
-        pub fn gate_bench_slow_rz_apply(reals: *const f64, reals_len: usize, imags: *const f64, imags_len: usize, out_reals: *mut f64,
-            out_reals_len: usize, out_imags: *mut f64, out_imags_len: usize, n: u32, target: u32, ones: u32, cosine: f64,
+        pub fn gate_bench_slow_rz_apply(sr: *const f64, sr_len: usize, si: *const f64, si_len: usize, reals: *mut f64,
+            reals_len: usize, imags: *mut f64, imags_len: usize, n: u32, target: u32, ones: u32, cosine: f64,
             sine: f64) -> u32;
-        pub fn gate_bench_slow_u_apply(reals: *const f64, reals_len: usize, imags: *const f64, imags_len: usize, out_reals: *mut f64,
-            out_reals_len: usize, out_imags: *mut f64, out_imags_len: usize, n: u32, target: u32, ones: u32, ct: f64, st: f64, cl: f64,
+        pub fn gate_bench_slow_u_apply(sr: *const f64, sr_len: usize, si: *const f64, si_len: usize, reals: *mut f64,
+            reals_len: usize, imags: *mut f64, imags_len: usize, n: u32, target: u32, ones: u32, ct: f64, st: f64, cl: f64,
             sl: f64, cpl: f64, spl: f64, cp: f64, sp: f64) -> u32;
-        pub fn gate_bench_slow_swap_apply(reals: *const f64, reals_len: usize, imags: *const f64, imags_len: usize, out_reals: *mut f64,
-            out_reals_len: usize, out_imags: *mut f64, out_imags_len: usize, n: u32, t0: u32, t1: u32) -> u32;
-        pub fn gate_bench_slow_bit_flip_noise_apply(reals: *const f64, reals_len: usize, imags: *const f64, imags_len: usize,
-            out_reals: *mut f64, out_reals_len: usize, out_imags: *mut f64, out_imags_len: usize, n: u32, target: u32, prob: f64,
+        pub fn gate_bench_slow_swap_apply(sr: *const f64, sr_len: usize, si: *const f64, si_len: usize, reals: *mut f64,
+            reals_len: usize, imags: *mut f64, imags_len: usize, n: u32, t0: u32, t1: u32) -> u32;
+        pub fn gate_bench_slow_bit_flip_noise_apply(sr: *const f64, sr_len: usize, si: *const f64, si_len: usize,
+            reals: *mut f64, reals_len: usize, imags: *mut f64, imags_len: usize, n: u32, target: u32, prob: f64,
             draw: f64) -> u32;
         pub fn gate_bench_from_single_qubit_gate(reals: *mut f64, reals_len: usize, imags: *mut f64, imags_len: usize, n: u32, target: u32,
             re00: f64, im00: f64, re01: f64, im01: f64, re10: f64, im10: f64, re11: f64, im11: f64) -> u32;
@@ -134,65 +134,65 @@ pub fn measure_qubit(reals: &mut [f64], imags: &mut [f64], n: u32, target: u32, 
         reset) }
 }
 
-pub fn slow_x_apply(reals: &[f64], imags: &[f64], out_reals: &mut [f64], out_imags: &mut [f64], n: u32, target: u32, ones: u32) -> u32 {
-    unsafe { declared::gate_bench_slow_x_apply(reals.as_ptr(), reals.len(), imags.as_ptr(), imags.len(), out_reals.as_mut_ptr(),
-        out_reals.len(), out_imags.as_mut_ptr(), out_imags.len(), n, target, ones) }
+pub fn slow_x_apply(sr: &[f64], si: &[f64], reals: &mut [f64], imags: &mut [f64], n: u32, target: u32, ones: u32) -> u32 {
+    unsafe { declared::gate_bench_slow_x_apply(sr.as_ptr(), sr.len(), si.as_ptr(), si.len(), reals.as_mut_ptr(),
+        reals.len(), imags.as_mut_ptr(), imags.len(), n, target, ones) }
 }
 
-pub fn slow_y_apply(reals: &[f64], imags: &[f64], out_reals: &mut [f64], out_imags: &mut [f64], n: u32, target: u32, ones: u32) -> u32 {
-    unsafe { declared::gate_bench_slow_y_apply(reals.as_ptr(), reals.len(), imags.as_ptr(), imags.len(), out_reals.as_mut_ptr(),
-        out_reals.len(), out_imags.as_mut_ptr(), out_imags.len(), n, target, ones) }
+pub fn slow_y_apply(sr: &[f64], si: &[f64], reals: &mut [f64], imags: &mut [f64], n: u32, target: u32, ones: u32) -> u32 {
+    unsafe { declared::gate_bench_slow_y_apply(sr.as_ptr(), sr.len(), si.as_ptr(), si.len(), reals.as_mut_ptr(),
+        reals.len(), imags.as_mut_ptr(), imags.len(), n, target, ones) }
 }
 
-pub fn slow_z_apply(reals: &[f64], imags: &[f64], out_reals: &mut [f64], out_imags: &mut [f64], n: u32, target: u32, ones: u32) -> u32 {
-    unsafe { declared::gate_bench_slow_z_apply(reals.as_ptr(), reals.len(), imags.as_ptr(), imags.len(), out_reals.as_mut_ptr(),
-        out_reals.len(), out_imags.as_mut_ptr(), out_imags.len(), n, target, ones) }
+pub fn slow_z_apply(sr: &[f64], si: &[f64], reals: &mut [f64], imags: &mut [f64], n: u32, target: u32, ones: u32) -> u32 {
+    unsafe { declared::gate_bench_slow_z_apply(sr.as_ptr(), sr.len(), si.as_ptr(), si.len(), reals.as_mut_ptr(),
+        reals.len(), imags.as_mut_ptr(), imags.len(), n, target, ones) }
 }
 
-pub fn slow_h_apply(reals: &[f64], imags: &[f64], out_reals: &mut [f64], out_imags: &mut [f64], n: u32, target: u32, ones: u32) -> u32 {
-    unsafe { declared::gate_bench_slow_h_apply(reals.as_ptr(), reals.len(), imags.as_ptr(), imags.len(), out_reals.as_mut_ptr(),
-        out_reals.len(), out_imags.as_mut_ptr(), out_imags.len(), n, target, ones) }
+pub fn slow_h_apply(sr: &[f64], si: &[f64], reals: &mut [f64], imags: &mut [f64], n: u32, target: u32, ones: u32) -> u32 {
+    unsafe { declared::gate_bench_slow_h_apply(sr.as_ptr(), sr.len(), si.as_ptr(), si.len(), reals.as_mut_ptr(),
+        reals.len(), imags.as_mut_ptr(), imags.len(), n, target, ones) }
 }
 
-pub fn slow_p_apply(reals: &[f64], imags: &[f64], out_reals: &mut [f64], out_imags: &mut [f64], n: u32, target: u32, ones: u32,
+pub fn slow_p_apply(sr: &[f64], si: &[f64], reals: &mut [f64], imags: &mut [f64], n: u32, target: u32, ones: u32,
     cosine: f64, sine: f64) -> u32 {
-    unsafe { declared::gate_bench_slow_p_apply(reals.as_ptr(), reals.len(), imags.as_ptr(), imags.len(), out_reals.as_mut_ptr(),
-        out_reals.len(), out_imags.as_mut_ptr(), out_imags.len(), n, target, ones, cosine, sine) }
+    unsafe { declared::gate_bench_slow_p_apply(sr.as_ptr(), sr.len(), si.as_ptr(), si.len(), reals.as_mut_ptr(),
+        reals.len(), imags.as_mut_ptr(), imags.len(), n, target, ones, cosine, sine) }
 }
 
-pub fn slow_rx_apply(reals: &[f64], imags: &[f64], out_reals: &mut [f64], out_imags: &mut [f64], n: u32, target: u32, ones: u32,
+pub fn slow_rx_apply(sr: &[f64], si: &[f64], reals: &mut [f64], imags: &mut [f64], n: u32, target: u32, ones: u32,
     cosine: f64, sine: f64) -> u32 {
-    unsafe { declared::gate_bench_slow_rx_apply(reals.as_ptr(), reals.len(), imags.as_ptr(), imags.len(), out_reals.as_mut_ptr(),
-        out_reals.len(), out_imags.as_mut_ptr(), out_imags.len(), n, target, ones, cosine, sine) }
+    unsafe { declared::gate_bench_slow_rx_apply(sr.as_ptr(), sr.len(), si.as_ptr(), si.len(), reals.as_mut_ptr(),
+        reals.len(), imags.as_mut_ptr(), imags.len(), n, target, ones, cosine, sine) }
 }
 
-pub fn slow_ry_apply(reals: &[f64], imags: &[f64], out_reals: &mut [f64], out_imags: &mut [f64], n: u32, target: u32, ones: u32,
+pub fn slow_ry_apply(sr: &[f64], si: &[f64], reals: &mut [f64], imags: &mut [f64], n: u32, target: u32, ones: u32,
     cosine: f64, sine: f64) -> u32 {
-    unsafe { declared::gate_bench_slow_ry_apply(reals.as_ptr(), reals.len(), imags.as_ptr(), imags.len(), out_reals.as_mut_ptr(),
-        out_reals.len(), out_imags.as_mut_ptr(), out_imags.len(), n, target, ones, cosine, sine) }
+    unsafe { declared::gate_bench_slow_ry_apply(sr.as_ptr(), sr.len(), si.as_ptr(), si.len(), reals.as_mut_ptr(),
+        reals.len(), imags.as_mut_ptr(), imags.len(), n, target, ones, cosine, sine) }
 }
 
-pub fn slow_rz_apply(reals: &[f64], imags: &[f64], out_reals: &mut [f64], out_imags: &mut [f64], n: u32, target: u32, ones: u32,
+pub fn slow_rz_apply(sr: &[f64], si: &[f64], reals: &mut [f64], imags: &mut [f64], n: u32, target: u32, ones: u32,
     cosine: f64, sine: f64) -> u32 {
-    unsafe { declared::gate_bench_slow_rz_apply(reals.as_ptr(), reals.len(), imags.as_ptr(), imags.len(), out_reals.as_mut_ptr(),
-        out_reals.len(), out_imags.as_mut_ptr(), out_imags.len(), n, target, ones, cosine, sine) }
+    unsafe { declared::gate_bench_slow_rz_apply(sr.as_ptr(), sr.len(), si.as_ptr(), si.len(), reals.as_mut_ptr(),
+        reals.len(), imags.as_mut_ptr(), imags.len(), n, target, ones, cosine, sine) }
 }
 
-pub fn slow_u_apply(reals: &[f64], imags: &[f64], out_reals: &mut [f64], out_imags: &mut [f64], n: u32, target: u32, ones: u32, ct: f64,
+pub fn slow_u_apply(sr: &[f64], si: &[f64], reals: &mut [f64], imags: &mut [f64], n: u32, target: u32, ones: u32, ct: f64,
     st: f64, cl: f64, sl: f64, cpl: f64, spl: f64, cp: f64, sp: f64) -> u32 {
-    unsafe { declared::gate_bench_slow_u_apply(reals.as_ptr(), reals.len(), imags.as_ptr(), imags.len(), out_reals.as_mut_ptr(),
-        out_reals.len(), out_imags.as_mut_ptr(), out_imags.len(), n, target, ones, ct, st, cl, sl, cpl, spl, cp, sp) }
+    unsafe { declared::gate_bench_slow_u_apply(sr.as_ptr(), sr.len(), si.as_ptr(), si.len(), reals.as_mut_ptr(),
+        reals.len(), imags.as_mut_ptr(), imags.len(), n, target, ones, ct, st, cl, sl, cpl, spl, cp, sp) }
 }
 
-pub fn slow_swap_apply(reals: &[f64], imags: &[f64], out_reals: &mut [f64], out_imags: &mut [f64], n: u32, t0: u32, t1: u32) -> u32 {
-    unsafe { declared::gate_bench_slow_swap_apply(reals.as_ptr(), reals.len(), imags.as_ptr(), imags.len(), out_reals.as_mut_ptr(),
-        out_reals.len(), out_imags.as_mut_ptr(), out_imags.len(), n, t0, t1) }
+pub fn slow_swap_apply(sr: &[f64], si: &[f64], reals: &mut [f64], imags: &mut [f64], n: u32, t0: u32, t1: u32) -> u32 {
+    unsafe { declared::gate_bench_slow_swap_apply(sr.as_ptr(), sr.len(), si.as_ptr(), si.len(), reals.as_mut_ptr(),
+        reals.len(), imags.as_mut_ptr(), imags.len(), n, t0, t1) }
 }
 
-pub fn slow_bit_flip_noise_apply(reals: &[f64], imags: &[f64], out_reals: &mut [f64], out_imags: &mut [f64], n: u32, target: u32,
+pub fn slow_bit_flip_noise_apply(sr: &[f64], si: &[f64], reals: &mut [f64], imags: &mut [f64], n: u32, target: u32,
     prob: f64, draw: f64) -> u32 {
-    unsafe { declared::gate_bench_slow_bit_flip_noise_apply(reals.as_ptr(), reals.len(), imags.as_ptr(), imags.len(),
-        out_reals.as_mut_ptr(), out_reals.len(), out_imags.as_mut_ptr(), out_imags.len(), n, target, prob, draw) }
+    unsafe { declared::gate_bench_slow_bit_flip_noise_apply(sr.as_ptr(), sr.len(), si.as_ptr(), si.len(),
+        reals.as_mut_ptr(), reals.len(), imags.as_mut_ptr(), imags.len(), n, target, prob, draw) }
 }
 
 pub fn from_single_qubit_gate(reals: &mut [f64], imags: &mut [f64], n: u32, target: u32, re00: f64, im00: f64, re01: f64, im01: f64,
