@@ -8,7 +8,6 @@ ghost use Rattle.bench_run.specs.Turns.{Begins};
 
 mod turns;
 
-use act::Engine;
 use feeding::Feed;
 use first_state::MOST_PLACES;
 use gathering::STOPPED;
@@ -68,7 +67,7 @@ fn left(turns: u64, more: bool) -> u64
 // Reads to the end, and writes what has been answered before more is waited for. Nothing says that an input ends: the turns are counted down from a number that
 // no run uses up.
 fn take_input(
-    engine: Engine,
+    engine: u32,
     input: i32,
     start: Running,
     reals: &mut [f64],
@@ -101,7 +100,7 @@ fn write_closing(end: Running, reals: &[f64], imags: &[f64]) -> bool
 
 // The frames, and then the state behind them.
 fn run_session(
-    engine: Engine,
+    engine: u32,
     input: i32,
     start: Running,
     reals: &mut [f64],
@@ -119,7 +118,7 @@ fn run_session(
 }
 
 // From state real 1 at index 0, with the places that a state of n qubits has.
-fn run_bench(engine: Engine, input: i32, n: u32, number: u32) -> Ended
+fn run_bench(engine: u32, input: i32, n: u32, number: u32) -> Ended
     requires { ⌜ n ≤ 11 ⌝ }
 {
     let size: usize = 1 << n;
@@ -143,7 +142,7 @@ fn bad_header() -> Ended {
 }
 
 // From an open descriptor: that of a stored run, or standard input.
-pub fn run_from(engine: Engine, input: i32) -> Ended {
+pub fn run_from(engine: u32, input: i32) -> Ended {
     let mut head = [0u8; 8];
     let got = io::read_full(input, &mut head);
     let header = headers::read_header(&head[..got]);
@@ -158,7 +157,7 @@ fn tell(line: &[u8]) {
 }
 
 // The language has no exit status: ./bench makes one of the line on standard error. Standard output has 01's lines alone.
-pub fn run(engine: Engine) {
+pub fn run(engine: u32) {
     match run_from(engine, libc::STDIN_FILENO) {
         Ended::Whole => {}
         Ended::Cut => tell(b"gate_bench: CUT\n"),

@@ -1,5 +1,4 @@
 // What is written, out of what was read: a turn's lines out of its piece, and the lines at the end.
-use act::Engine;
 use program::OUT;
 use program::PIECE;
 use program::Running;
@@ -20,7 +19,7 @@ pub(crate) struct Turn {
 
 // A piece is read and taken. Its lines stand at the start of `out`, all of them.
 pub(crate) fn take_turn(
-    engine: Engine,
+    engine: u32,
     input: i32,
     from: Running,
     chunk: &mut [u8; PIECE],

@@ -1,5 +1,5 @@
 // Sessions. A session is eight words that the caller keeps (crate keeping says which); a delivery that takes a record writes it back.
-use act::Engine;
+use act::FAST;
 use answers::TAKEN;
 use answers::number_of;
 use answers::tell_reply;
@@ -48,7 +48,7 @@ pub extern "C" fn gate_bench_deliver(
 ) -> u32
     ensures { λ r. ⌜ TellsDelivery (now (session .entry)) (before reals imags) (now (bytes .entry)) r (now (session .exit)) (after reals imags) ⌝ }
 {
-    let delivered = session_in(session).deliver(Engine::Fast, bytes, reals, imags);
+    let delivered = session_in(session).deliver(FAST, bytes, reals, imags);
     let next = delivered.next;
     let value = next.value;
     keep(session, next.count, value);

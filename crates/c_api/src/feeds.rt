@@ -1,6 +1,6 @@
 // A stream of frames in pieces. What is kept between two of them is the caller's: the session, a number, and 97 bytes.
 use crate::deliveries::session_in;
-use act::Engine;
+use act::FAST;
 use answers::tell_reply;
 use feeding::Told;
 use feeding::take_piece;
@@ -50,15 +50,7 @@ pub extern "C" fn gate_bench_feed(
     ensures { λ r. ⌜ TellsFeed (words (now (session .entry)) (now (kept .entry)) (now (held .entry))) (before reals imags) (now (piece .entry))
         r (now (used .exit)) (words (now (session .exit)) (now (kept .exit)) (now (held .exit))) (after reals imags) ⌝ }
 {
-    let fed = take_piece(
-        Engine::Fast,
-        session_in(session),
-        *kept,
-        held,
-        piece,
-        reals,
-        imags,
-    );
+    let fed = take_piece(FAST, session_in(session), *kept, held, piece, reals, imags);
     let next = fed.session;
     let value = next.value;
     let told = fed.told;

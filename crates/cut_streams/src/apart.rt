@@ -2,7 +2,7 @@
 use crate::compare::floats_differ;
 use crate::compare::forms_differ;
 use crate::compare::numbers_differ;
-use act::Engine;
+use act::FAST;
 use feeding::Feed;
 use sessions::Session;
 ghost use mathlib.Core.Path.{_≡_};
@@ -52,7 +52,7 @@ fn fed(
 {
     let size = places(session.n);
     Feed::start(session).take_all(
-        Engine::Fast,
+        FAST,
         frames,
         lengths,
         answers,

@@ -1,5 +1,4 @@
 // A form that takes bytes as they come, and makes each delivery when its frame is complete: it takes itself and a piece, and hands back the next one.
-use act::Engine;
 use answers::tell_reply;
 use book::Reply;
 use gathering::Due;
@@ -47,7 +46,7 @@ pub struct Stepped {
 
 // The delivery of a frame's contents, which used so many bytes of the piece. Behind a frame nothing is kept.
 fn make(
-    engine: Engine,
+    engine: u32,
     session: Session,
     used: usize,
     contents: &[u8],
@@ -69,7 +68,7 @@ fn make(
 
 // A frame that came in two parts: they are put together.
 fn make_joined(
-    engine: Engine,
+    engine: u32,
     session: Session,
     first: &[u8],
     last: &[u8],
@@ -89,7 +88,7 @@ fn make_joined(
 // One step: the piece is used up to the end of the first frame that it completes, and that is delivered; all of it where it completes none.
 // A frame that stands whole in its piece is delivered from there.
 pub fn take_piece(
-    engine: Engine,
+    engine: u32,
     session: Session,
     kept: u32,
     held: &mut [u8; 97],
@@ -159,7 +158,7 @@ fn fill(told: Told, count: u16, filled: usize, answers: &mut [u32]) -> usize
 
 // All of a piece, step by step.
 fn take_whole(
-    engine: Engine,
+    engine: u32,
     from: Filling,
     held: &mut [u8; 97],
     piece: &[u8],
@@ -204,7 +203,7 @@ impl Feed {
         }
     }
 
-    pub fn take(self, engine: Engine, piece: &[u8], reals: &mut [f64], imags: &mut [f64]) -> Taken
+    pub fn take(self, engine: u32, piece: &[u8], reals: &mut [f64], imags: &mut [f64]) -> Taken
         ensures { λ r. ⌜ Takes (formOf self) (before reals imags) (now (piece .entry)) (r .used) (toldOf (r .told) (r .next .session .count))
             (formOf (r .next)) (after reals imags) ⌝ }
     {
@@ -236,7 +235,7 @@ impl Feed {
     // Each answer is stored as one number, as far as the list goes.
     pub fn take_all(
         self,
-        engine: Engine,
+        engine: u32,
         bytes: &[u8],
         lengths: &[usize],
         answers: &mut [u32],

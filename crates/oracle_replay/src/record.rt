@@ -1,7 +1,7 @@
 // The record of a case, delivered to a new session.
 use crate::case::Head;
 use crate::case::UNREAD;
-use act::Engine;
+use act::FAST;
 use book::Answer;
 use book::Reply;
 use libc::STDIN_FILENO;
@@ -34,7 +34,7 @@ fn told(reply: Reply) -> u8 {
 fn told_of(n: u8, bytes: &[u8], reals: &mut [f64], imags: &mut [f64]) -> u8 {
     match Session::start(n as u32, NUMBER) {
         Started::Fresh(session) => {
-            let delivered = session.deliver(Engine::Fast, bytes, reals, imags);
+            let delivered = session.deliver(FAST, bytes, reals, imags);
             let reply = delivered.reply;
             told(reply)
         }

@@ -1,5 +1,4 @@
 // The program over slices, piece by piece: bench_run reads and writes, and does all between by these functions. Crate whole_run puts them together.
-use act::Engine;
 use feeding::Feed;
 use feeding::Told;
 use feeding::take_piece;
@@ -66,7 +65,7 @@ fn put_told(out: &mut [u8], at: usize, index: u64, told: Told, count: u16) -> Pl
 
 // All of a piece: its deliveries are made, and their lines are put behind a place of the output as far as it goes.
 pub fn put_piece(
-    engine: Engine,
+    engine: u32,
     from: Running,
     piece: &[u8],
     out: &mut [u8],

@@ -1,5 +1,4 @@
 // Sessions: each delivery takes the session and hands back the next one, with the answer. However often a record comes, it is run once.
-use act::Engine;
 use act::run;
 use book::Answer;
 use book::MOST_QUBITS;
@@ -95,7 +94,7 @@ impl Session {
     // Only the next record goes on to its gate, whose own tests begin with 1 and 2: so a delivery is judged once.
     pub fn deliver(
         self,
-        engine: Engine,
+        engine: u32,
         bytes: &[u8],
         reals: &mut [f64],
         imags: &mut [f64],
@@ -119,7 +118,7 @@ impl Session {
     // Deliveries one after the other, which lie so in `bytes`; `lengths` says how many bytes each takes. Whatever comes, each record is run once.
     pub fn deliver_all(
         self,
-        engine: Engine,
+        engine: u32,
         bytes: &[u8],
         lengths: &[usize],
         reals: &mut [f64],

@@ -1,6 +1,6 @@
 // The gate bench by the slow engine: reads what gate_bench reads, and prints the same lines.
-use act::Engine;
+use act::SLOW;
 
 fn main() {
-    bench_run::run(Engine::Slow);
+    bench_run::run(SLOW);
 }

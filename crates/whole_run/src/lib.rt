@@ -1,5 +1,4 @@
 // The whole program over slices: from all bytes of the input to all bytes that are printed, in pieces as bench_run reads them.
-use act::Engine;
 use first_state::MOST_PLACES;
 use first_state::first_reals;
 use headers::Header;
@@ -26,7 +25,7 @@ ghost use Rattle.program.specs.Program.{linesOf, printed, runOf, Prints};
 
 // Piece after piece, as bench_run reads them.
 fn put_pieces(
-    engine: Engine,
+    engine: u32,
     from: Running,
     bytes: &[u8],
     out: &mut [u8],
@@ -51,7 +50,7 @@ fn put_pieces(
 
 // The frames' lines, and those behind them, of a run that begins here.
 fn put_lines(
-    engine: Engine,
+    engine: u32,
     from: Running,
     frames: &[u8],
     out: &mut [u8],
@@ -66,7 +65,7 @@ fn put_lines(
 }
 
 // In the places of n qubits.
-fn put_run(engine: Engine, n: u32, number: u32, frames: &[u8], out: &mut [u8]) -> usize
+fn put_run(engine: u32, n: u32, number: u32, frames: &[u8], out: &mut [u8]) -> usize
     requires { ⌜ n ≤ 11 ⌝ }
     ensures { λ r. ⌜ Put (linesOf (Book.fresh n number) (firstState n) (now (frames .entry))) (now (out .entry)) 0 r (now (out .exit)) ⌝ }
 {
@@ -84,7 +83,7 @@ fn put_run(engine: Engine, n: u32, number: u32, frames: &[u8], out: &mut [u8]) -
 }
 
 // From the whole input to the whole output, as far as the buffer goes: what the program prints. The answer is how many bytes stand there.
-pub fn print_all(engine: Engine, input: &[u8], out: &mut [u8]) -> usize
+pub fn print_all(engine: u32, input: &[u8], out: &mut [u8]) -> usize
     ensures { λ r. ⌜ Put (printed (now (input .entry))) (now (out .entry)) 0 r (now (out .exit)) ⌝ }
 {
     match read_header(input) {
