@@ -5,7 +5,7 @@ use book::Refusal;
 use book::Reply;
 use book::ValueOrNone;
 ghost use mathlib.Core.Path.{_≡_};
-ghost use Rattle.book.specs.Answers.{numberOf, says, valueOrNone, replies};
+ghost use Rattle.book.specs.Answers.{numberOf, says, valueOrNone, replies, accepts};
 ghost use Rattle.answers.specs.Told.{saidNumber, againNumber, repliedNumber};
 
 pub const TAKEN: u32 = 0;
@@ -63,5 +63,16 @@ pub fn tell_reply(reply: Reply) -> u32
     match reply {
         Reply::Again(told) => tell_again(told),
         Reply::Said(answer) => tell(answer),
+    }
+}
+
+// Whether a call was taken.
+pub fn accepted(answer: Answer) -> bool
+    ensures { λ r. ⌜ r ≡ accepts (says answer) ⌝ }
+{
+    match answer {
+        Answer::Taken => true,
+        Answer::Value(_) => true,
+        Answer::Refused(_) => false,
     }
 }

@@ -1,4 +1,5 @@
 // A gate by the slow engine, in place: into a second state, and from there back over the first. So a session may be run by it.
+use answers::accepted;
 use book::Answer;
 use book::Controls;
 use book::Gate;
@@ -11,7 +12,7 @@ ghost use mathlib.Core.Bool.{_&&_};
 ghost use mathlib.Core.Path.{_≡_};
 ghost use lib.ListN.{length};
 ghost use Rattle.book.specs.Calls.{act};
-ghost use Rattle.book.specs.Answers.{says, outcomeOf, accepts};
+ghost use Rattle.book.specs.Answers.{outcomeOf};
 ghost use Rattle.book.specs.Lent.{before, after, here, SameSize};
 ghost use Rattle.into.specs.Into.{intoTests};
 ghost use Rattle.slow_act.specs.Runs.{askedOf, can, callFor, hasRoom, Runs};
@@ -87,17 +88,6 @@ fn copy(from: &[f64], to: &mut [f64])
     while i < to.len() {
         to[i] = from[i];
         i += 1;
-    }
-}
-
-// Whether the outputs are to be taken over: not where the gate was refused.
-fn accepted(answer: Answer) -> bool
-    ensures { λ r. ⌜ r ≡ accepts (says answer) ⌝ }
-{
-    match answer {
-        Answer::Taken => true,
-        Answer::Value(_) => true,
-        Answer::Refused(_) => false,
     }
 }
 
