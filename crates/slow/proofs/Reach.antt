@@ -9,7 +9,7 @@ use borrow.Author.Tests.{eq-eqb, ne-eqb}
 use lib.Bits.{bitAnd}
 use lib.ListN.{length}
 use lib.Pow.{pow-lt}
-use Rattle.book.proofs.Bits.{bit-lt, bit-le, halves, up-lt}
+use Rattle.book.proofs.Bits.{bit-le, halves, up-lt}
 use Rattle.book.proofs.Places.{placed-lower, placed-upper}
 use Rattle.book.proofs.Twice.{exchange}
 use Rattle.book.specs.Answers.{Buffers}

@@ -1,5 +1,5 @@
 -- `bench_run::take_input` is safe and ends: the turns go down. Assumes nothing.
-use mathlib.Core.Path.{_≡_, refl, _∙_}
+use mathlib.Core.Path.{_≡_, refl}
 use borrow.Author.Needs.{needs}
 use lib.ListN.{length}
 use Rattle.bench_run.proofs.take_input.Statement.{statement}

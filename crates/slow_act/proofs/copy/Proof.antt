@@ -1,6 +1,5 @@
 -- `slow_act::copy` meets its contract: one place more in each turn. Assumes nothing.
 use Prim.Native.Nat.{_-_}
-use native.Mathlib.Omega.{arith}
 use borrow.Author.Needs.{needs}
 use lib.ListN.{length}
 use Rattle.slow_act.proofs.Copies.{Copied, none-copied, one-more, all-copied}
