@@ -91,7 +91,8 @@ pub set : (t i : ℕ) → (bit t i ≡ 0 → ⊥) → bit t i ≡ 1
 set t i e = ⊎-elim (λ z. absurd (e z)) (λ o. o) (halves t i)
 
 -- what the rule makes of the place and its partner, d away
-module _ (rule : Pair → Pair) (t : ℕ) (c : Controls) (s : State) (i : ℕ) (h : bitAnd i (c .ones) ≡ c .ones) {d : ℕ} (e : d ≡ 2 ^ t) {x y : Amplitude} {p : Pair} where
+module _ (rule : Pair → Pair) (t : ℕ) (c : Controls) (s : State) (i : ℕ) (h : bitAnd i (c .ones) ≡ c .ones)
+    {d : ℕ} (e : d ≡ 2 ^ t) {x y : Amplitude} {p : Pair} where
   pub lower-place : bit t i ≡ 0 → x ≡ s i → y ≡ s (i + d) → p ≡ rule (pair x y) → p .s0 ≡ placed rule t c s i
   lower-place z f g is =
       ap (λ (q : Pair). q .s0) (is ∙ ap₂ (λ (u v : Amplitude). rule (pair u v)) f (g ∙ ap (λ (k : ℕ). s (i + k)) e))

@@ -26,7 +26,8 @@ returns c =
     let a = start m .args in
     over-taken (a .n) (a .gate) (start m .pre) (told .ran .given .1)
     (asked-is (a .gate) (a .n) (state m) (outputs m) (rw (m .before .before .before .before .before .ask .ensures) at (m .act-into .ensures)))
-    (sym (if1 .before .accepted .ensures) ∙ if1 .if1 .taken) (ap₂ buffers (c .before .before .before .before .before .before .before .copy .ensures) (c .before .before .copy2 .ensures))
+    (sym (if1 .before .accepted .ensures) ∙ if1 .if1 .taken)
+    (ap₂ buffers (c .before .before .before .before .before .before .before .copy .ensures) (c .before .before .copy2 .ensures))
 
 returns-2 : tie.Need-returns-2
 returns-2 c =
@@ -41,7 +42,8 @@ returns-3 : tie.Need-returns-3
 returns-3 c =
     let m = c .before .before .before .before .before .before in
     let a = start m .args in
-    not-ran (c .enum-told .given .1) (asked-is (a .gate) (a .n) (state m) (outputs m) (rw (m .before .before .before .before .before .ask .ensures) at (m .act-into .ensures)))
+    not-ran (c .enum-told .given .1)
+    (asked-is (a .gate) (a .n) (state m) (outputs m) (rw (m .before .before .before .before .before .ask .ensures) at (m .act-into .ensures)))
 
 pub act-over-spec : {M : Type 1} → statement M
 act-over-spec =
