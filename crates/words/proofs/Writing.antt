@@ -114,10 +114,8 @@ pub decimal-is : (k n : ℕ) → k ≤ 20 → Fewest 10 1 n k → digits 10 k n 
 unfolding decimal
 decimal-is k n h q = fewest 20 k n h q
 
--- ---- bits
+-- ---- hex digits
 
-pub bits-is : (k b : ℕ) (x : Float) → k ≤ 16 → 16 ≤ k → b ≡ toBits binary64 x → digits 16 k b ≡ bits x
+pub bits-is : (x : Float) {n : ℕ} {l l₁ : List ℕ} {at at₁ : ℕ} → n ≡ toBits binary64 x → Added (digits 16 16 n) 16 l at at₁ l₁ → Added (bits x) 16 l at at₁ l₁
 unfolding bits
-bits-is k b x h l e =
-    let all : k ≡ 16 = omega arith in
-    ap (λ (i : ℕ). digits 16 i b) all ∙ ap (digits 16 16) e
+bits-is x e p = rw (← e) p

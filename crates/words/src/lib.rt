@@ -1,7 +1,8 @@
 // Words put behind a place of a buffer. Each answers the place behind them.
 // An inner room: its callers, the lines of the program, are proved to have the room that is asked.
-ghost use Prim.Native.Nat.{_+_, _≤_};
+ghost use Prim.Native.Nat.{_+_, _^_, _≤_, _<_};
 ghost use lib.ListN.{length};
+ghost use Rattle.io.specs.Digits.{digits};
 ghost use Rattle.words.specs.Words.{decimal, bits, Added};
 
 pub fn add(out: &mut [u8], at: usize, words: &[u8]) -> usize
@@ -26,11 +27,19 @@ pub fn add_number(out: &mut [u8], at: usize, n: u64) -> usize
     add(out, at, &digits[..k])
 }
 
+// A number in hex digits, as many as are asked, which hold it.
+fn add_hex(out: &mut [u8], at: usize, n: u64, width: usize) -> usize
+    requires { ⌜ (1 ≤ width) × (width ≤ 16) × (n < 16 ^ width) × (at + width ≤ length (now out)) ⌝ }
+    ensures { λ r. ⌜ Added (digits 16 width n) width (now (out .entry)) at r (now (out .exit)) ⌝ }
+{
+    let mut digits = [0u8; 16];
+    let k = io::hex(n, width, &mut digits);
+    add(out, at, &digits[..k])
+}
+
 pub fn add_bits(out: &mut [u8], at: usize, x: f64) -> usize
     requires { ⌜ at + 16 ≤ length (now out) ⌝ }
     ensures { λ r. ⌜ Added (bits x) 16 (now (out .entry)) at r (now (out .exit)) ⌝ }
 {
-    let mut digits = [0u8; 16];
-    let k = io::hex(wire::bits_of(x), 16, &mut digits);
-    add(out, at, &digits[..k])
+    add_hex(out, at, wire::bits_of(x), 16)
 }
