@@ -18,7 +18,7 @@ use Rattle.book.specs.ExactlyOnce.{Longest, In, Numbered, give, lastValu
 use Rattle.book.specs.Kernels.{badSize, mostQubits, badLength, sizeTests}
 use Rattle.book.specs.Records.{readRecord}
 use Rattle.book.specs.Sessions.{Session, fresh, raised, Delivery, kept, counted, toldAgain, standing}
-use Rattle.book.specs.Sessions.{takeRecord, takeRead, takeSized, deliver, deliverAll}
+use Rattle.book.specs.Sessions.{takeRecord, takeRead, deliver, deliverAll}
 use Rattle.book.specs.declared.Record.{Record}
 use Rattle.book.proofs.Calls.{sized-right}
 use Rattle.book.proofs.Found.{longest-none, longest-same, longest-next}
@@ -130,9 +130,9 @@ module _ (n own : ℕ) (b₀ : Buffers) (rs : List Record) (g : Given n own b₀
     k : ℕ
     k = s .count
 
-    ready : (bytes : List ℕ) → deliver s b bytes ≡ takeRead s b bytes (readRecord bytes)
+    ready : (bytes : List ℕ) → deliver s b bytes ≡ takeRead s b 0 (readRecord bytes)
     unfolding deliver
-    ready bytes = ap (takeSized s b bytes) (ap (λ (m : ℕ). first (sizeTests m b)) (h .n-is) ∙ right b (h .fits))
+    ready bytes = ap (λ (k : ℕ). takeRead s b k (readRecord bytes)) (ap (λ (m : ℕ). first (sizeTests m b)) (h .n-is) ∙ right b (h .fits))
 
     -- a delivery that changes nothing, and makes no start longer
     stays : (ys : List Record) (d : Delivery) (x : Replied) → d ≡ kept s b x → Longest k rs ys → Holds ys (d .next) (d .left)
@@ -155,9 +155,9 @@ module _ (n own : ℕ) (b₀ : Buffers) (rs : List Record) (g : Given n own b₀
           longest-same r (h .longest)
           (λ room e. other (ap (λ (y : Record). y .number) (sym e) ∙ numbered-at own 0 rs k r (g .made) room .1 ∙ zero-add k))
 
-      module _ (bytes : List ℕ) (d : Delivery) (is : d ≡ takeRecord s b bytes r (standing s r)) where
-        answered : (x : Option Replied) → standing s r ≡ x → d ≡ takeRecord s b bytes r x
-        answered x e = is ∙ ap (takeRecord s b bytes r) e
+      module _ (d : Delivery) (is : d ≡ takeRecord s b r (standing s r)) where
+        answered : (x : Option Replied) → standing s r ≡ x → d ≡ takeRecord s b r x
+        answered x e = is ∙ ap (takeRecord s b r) e
 
         repeated : r .number < s .count → Holds (xs ++ (r ∷ [])) (d .next) (d .left)
         unfolding k
@@ -185,10 +185,10 @@ module _ (n own : ℕ) (b₀ : Buffers) (rs : List Record) (g : Given n own b₀
             rw (theirs, not-full, le-ltb (r .number) (s .count) (omega arith), le-ltb (s .count) (r .number) (omega arith)) in
             let value : callOf (s .n) (r .gate) b .answer ≡ callOf n (r .gate) b .answer = ap (λ (m : ℕ). callOf m (r .gate) b .answer) (h .n-is) in
             let made : d ≡ record {
-              next = raised s bytes (callOf n (r .gate) b .answer);
+              next = raised s r (callOf n (r .gate) b .answer);
               says = said (act n (r .gate) b .says);
               left = act n (r .gate) b .left;
-            } = answered none goes ∙ ap₂ (λ (v : Option ℕ) (o : Outcome). counted s b bytes v o) value does ∙ rw took in
+            } = answered none goes ∙ ap₂ (λ (v : Option ℕ) (o : Outcome). counted s b r v o) value does ∙ rw took in
             rw made
             (record {
               n-is = h .n-is;
@@ -208,28 +208,28 @@ module _ (n own : ℕ) (b₀ : Buffers) (rs : List Record) (g : Given n own b₀
             by false e false f = next (omega (arith, ltb-false (r .number) (s .count) e, ltb-false (s .count) (r .number) f))
 
     -- a record of another session: 9, and it is none of the list's
-    other-session : (r : Record) → (r .session ≡ own → ⊥) → (bytes : List ℕ) (d : Delivery) → d ≡ takeRecord s b bytes r (standing s r)
+    other-session : (r : Record) → (r .session ≡ own → ⊥) → (d : Delivery) → d ≡ takeRecord s b r (standing s r)
         → Holds (xs ++ (r ∷ [])) (d .next) (d .left)
     unfolding k
-    other-session r other bytes d is =
+    other-session r other d is =
         let nine : standing s r ≡ some (said (refused 9)) = rw (ne-eqb (r .session) (s .number) (λ e. other (e ∙ h .own-is))) in
-        stays (xs ++ (r ∷ [])) d (said (refused 9)) (is ∙ ap (takeRecord s b bytes r) nine)
+        stays (xs ++ (r ∷ [])) d (said (refused 9)) (is ∙ ap (takeRecord s b r) nine)
         (longest-same r (h .longest) (λ room e. other (ap (λ (y : Record). y .session) (sym e) ∙ numbered-at own 0 rs k r (g .made) room .0)))
 
-    one : (bytes : List ℕ) → OneOf own rs bytes → (d : Delivery) → d ≡ takeRead s b bytes (readRecord bytes)
+    one : (bytes : List ℕ) → OneOf own rs bytes → (d : Delivery) → d ≡ takeRead s b 0 (readRecord bytes)
         → Holds (xs ++ cons (readRecord bytes) []) (d .next) (d .left)
     unfolding k
     one bytes (inl e) d is =
         subst (λ (x : Option Record). Holds (xs ++ cons x []) (d .next) (d .left)) (sym e)
         (subst (λ (ys : List Record). Holds ys (d .next) (d .left)) (sym (append-nil xs))
-        (stays xs d (said (refused 8)) (is ∙ ap (takeRead s b bytes) e) (h .longest)))
+        (stays xs d (said (refused 8)) (is ∙ ap (takeRead s b 0) e) (h .longest)))
     one bytes (inr w) d is =
         let (r, which, e) = w in
-        let read : d ≡ takeRecord s b bytes r (standing s r) = is ∙ ap (takeRead s b bytes) e in
+        let read : d ≡ takeRecord s b r (standing s r) = is ∙ ap (takeRead s b 0) e in
         subst (λ (x : Option Record). Holds (xs ++ cons x []) (d .next) (d .left)) (sym e)
         (⊎-elim
-        (λ member. one-record r (placed own 0 rs r (g .made) member) bytes d read)
-        (λ other. other-session r other bytes d read)
+        (λ member. one-record r (placed own 0 rs r (g .made) member) d read)
+        (λ other. other-session r other d read)
         which)
 
   step : (xs : List Record) (s : Session) (b : Buffers) (bytes : List ℕ) → OneOf own rs bytes → Holds xs s b
@@ -287,27 +287,24 @@ pub record Own (s s′ : Session) : Type 0 where
 pub same-own : (s : Session) → Own s s
 same-own s = record { n = refl; number = refl; unmoved = λ e. refl }
 
-module _ (s : Session) (b : Buffers) (bytes : List ℕ) where
-  counted-own : (t : Bool) (v : Option ℕ) (x : Replied) (left : Buffers)
-      → Own s (cond t (record { next = raised s bytes v; says = x; left = left }) (kept s b x) .next)
-  counted-own true v x left = record { n = refl; number = refl; unmoved = λ e. absurd (omega arith) }
-  counted-own false v x left = same-own s
+module _ (s : Session) (b : Buffers) where
+  counted-own : (r : Record) (t : Bool) (v : Option ℕ) (x : Replied) (left : Buffers)
+      → Own s (cond t (record { next = raised s r v; says = x; left = left }) (kept s b x) .next)
+  counted-own r true v x left = record { n = refl; number = refl; unmoved = λ e. absurd (omega arith) }
+  counted-own r false v x left = same-own s
 
-  record-own : (r : Record) (x : Option Replied) → Own s (takeRecord s b bytes r x .next)
+  record-own : (r : Record) (x : Option Replied) → Own s (takeRecord s b r x .next)
   record-own r (some x) = same-own s
   record-own r none =
       let c = callOf (s .n) (r .gate) b in
       let o = outcomeOf [] b c in
-      counted-own (accepts (o .says)) (c .answer) (said (o .says)) (o .left)
+      counted-own r (accepts (o .says)) (c .answer) (said (o .says)) (o .left)
 
-  read-own : (x : Option Record) → Own s (takeRead s b bytes x .next)
-  read-own (some r) = record-own r (standing s r)
-  read-own none = same-own s
-
-  sized-own : (k : ℕ) → Own s (takeSized s b bytes k .next)
-  sized-own zero = read-own (readRecord bytes)
-  sized-own (suc k) = same-own s
+  read-own : (k : ℕ) (o : Option Record) → Own s (takeRead s b k o .next)
+  read-own (suc k) o = same-own s
+  read-own zero none = same-own s
+  read-own zero (some r) = record-own r (standing s r)
 
 pub keeps-its-own : (s : Session) (b : Buffers) (bytes : List ℕ) → Own s (deliver s b bytes .next)
 unfolding deliver
-keeps-its-own s b bytes = sized-own s b bytes (first (sizeTests (s .n) b))
+keeps-its-own s b bytes = read-own s b (first (sizeTests (s .n) b)) (readRecord bytes)

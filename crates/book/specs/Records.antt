@@ -122,8 +122,7 @@ abbrev pub wroteOf : Record → List ℕ → Gives ℕ
 wroteOf r out = cond (ltb (length out) (length (writeRecord r))) (denied 12) (gives (length (writeRecord r)))
 
 abbrev pub leftBy : Record → List ℕ → List ℕ
-leftBy r out =
-    cond (ltb (length out) (length (writeRecord r))) out (writeRecord r ++ drop (length (writeRecord r)) out)
+leftBy r out = cond (ltb (length out) (length (writeRecord r))) out (writeRecord r ++ drop (length (writeRecord r)) out)
 
 -- ---- reading
 
@@ -148,8 +147,7 @@ abbrev pub readAngle : List ℕ → Angle
 readAngle c = record { cosine = float c 0; sine = float c 1 }
 
 abbrev pub readAngles : List ℕ → Angles
-readAngles c =
-    record { ct = float c 0; st = float c 1; cl = float c 2; sl = float c 3; cpl = float c 4; spl = float c 5; cp = float c 6; sp = float c 7 }
+readAngles c = record { ct = float c 0; st = float c 1; cl = float c 2; sl = float c 3; cpl = float c 4; spl = float c 5; cp = float c 6; sp = float c 7 }
 
 abbrev pub readNoise : List ℕ → Noise
 readNoise c = record { prob = float c 0; draw = float c 1 }

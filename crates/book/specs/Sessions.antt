@@ -24,9 +24,9 @@ fresh n own = record { n = n; number = own; count = 0; value = none }
 abbrev pub start : ℕ → ℕ → Option Session
 start n own = cond (badSize mostQubits n) none (some (fresh n own))
 
--- a record was taken, of these bytes and with this value
-abbrev pub raised : Session → List ℕ → Option ℕ → Session
-raised s bytes v = record { n = s .n; number = s .number; count = s .count + 1; value = v }
+-- this record was taken, with this value
+abbrev pub raised : Session → Record → Option ℕ → Session
+raised s r v = record { n = s .n; number = s .number; count = s .count + 1; value = v }
 
 -- ---- a delivery: the next session, what is said, and what the buffers hold
 
@@ -40,10 +40,10 @@ abbrev pub kept : Session → Buffers → Replied → Delivery
 kept s b x = record { next = s; says = x; left = b }
 
 -- a gate that was taken raises the count, and the value that it answers is kept
-abbrev pub counted : Session → Buffers → List ℕ → Option ℕ → Outcome → Delivery
-counted s b bytes v o =
+abbrev pub counted : Session → Buffers → Record → Option ℕ → Outcome → Delivery
+counted s b r v o =
     cond (accepts (o .says))
-    (record { next = raised s bytes v; says = said (o .says); left = o .left })
+    (record { next = raised s r v; says = said (o .says); left = o .left })
     (kept s b (said (o .says)))
 
 -- AGAIN for number count-1, the last record taken, tells the value that is kept; for an older number none
@@ -59,22 +59,18 @@ standing s r =
     (cond (ltb (s .count) (r .number)) (some (said (refused 10))) none)))
 
 -- to the gate's own tests, 3 to 7
-abbrev pub takeRecord : Session → Buffers → List ℕ → Record → Option Replied → Delivery
-takeRecord s b bytes r (some x) = kept s b x
-takeRecord s b bytes r none = let c = callOf (s .n) (r .gate) b in counted s b bytes (c .answer) (outcomeOf [] b c)
+abbrev pub takeRecord : Session → Buffers → Record → Option Replied → Delivery
+takeRecord s b r (some x) = kept s b x
+takeRecord s b r none = let c = callOf (s .n) (r .gate) b in counted s b r (c .answer) (outcomeOf [] b c)
 
--- 8
-abbrev pub takeRead : Session → Buffers → List ℕ → Option Record → Delivery
-takeRead s b bytes (some r) = takeRecord s b bytes r (standing s r)
-takeRead s b bytes none = kept s b (said (refused 8))
-
--- 1, 2
-abbrev pub takeSized : Session → Buffers → List ℕ → ℕ → Delivery
-takeSized s b bytes zero = takeRead s b bytes (readRecord bytes)
-takeSized s b bytes (suc k) = kept s b (said (refused (suc k)))
+-- 1, 2; then 8
+abbrev pub takeRead : Session → Buffers → ℕ → Option Record → Delivery
+takeRead s b (suc k) o = kept s b (said (refused (suc k)))
+takeRead s b zero none = kept s b (said (refused 8))
+takeRead s b zero (some r) = takeRecord s b r (standing s r)
 
 unfoldable pub deliver : Session → Buffers → List ℕ → Delivery
-deliver s b bytes = takeSized s b bytes (first (sizeTests (s .n) b))
+deliver s b bytes = takeRead s b (first (sizeTests (s .n) b)) (readRecord bytes)
 
 -- ---- one delivery after the other
 

@@ -12,7 +12,7 @@ use Rattle.book.specs.Calls.{callOf, act}
 use Rattle.book.specs.Kernels.{sizeTests}
 use Rattle.book.specs.Records.{readRecord}
 use Rattle.book.specs.Sessions as Book
-use Rattle.book.specs.Sessions.{raised, kept, counted, standing, takeRecord, takeRead, takeSized, deliver}
+use Rattle.book.specs.Sessions.{raised, kept, counted, standing, takeRecord, takeRead, deliver}
 use Rattle.book.specs.declared.Answer.{Answer}
 use Rattle.book.specs.declared.Record.{Record}
 use Rattle.book.specs.declared.Reply.{Reply}
@@ -27,34 +27,34 @@ use Rattle.sessions.specs.declared.Session.{Session}
 
 module _ (s : Book.Session) (b : Buffers) (bytes : List ℕ) where
   -- what is not run
-  stays : (x : Replied) → takeRead s b bytes (readRecord bytes) ≡ kept s b x → deliver s b bytes ≡ unsized s b x
+  stays : (x : Replied) → takeRead s b 0 (readRecord bytes) ≡ kept s b x → deliver s b bytes ≡ unsized s b x
   unfolding deliver
   stays x e = by (first (sizeTests (s .n) b))
     where
-      by : (k : ℕ) → takeSized s b bytes k ≡ kept s b (behind (verdict k) x)
+      by : (k : ℕ) → takeRead s b k (readRecord bytes) ≡ kept s b (behind (verdict k) x)
       by zero = e
       by (suc k) = refl
 
   pub unread : readRecord bytes ≡ none → deliver s b bytes ≡ unsized s b (said (refused 8))
-  unread e = stays (said (refused 8)) (ap (takeRead s b bytes) e)
+  unread e = stays (said (refused 8)) (ap (takeRead s b 0) e)
 
   module _ (r : Record) (e : readRecord bytes ≡ some r) where
     pub answered : (x : Replied) → some x ≡ standing s r → deliver s b bytes ≡ unsized s b x
-    answered x f = stays x (ap (takeRead s b bytes) e ∙ ap (takeRecord s b bytes r) (sym f))
+    answered x f = stays x (ap (takeRead s b 0) e ∙ ap (takeRecord s b r) (sym f))
 
     -- the next record: its gate decides, 1 and 2 too
-    pub goes : none ≡ standing s r → deliver s b bytes ≡ counted s b bytes (callOf (s .n) (r .gate) b .answer) (act (s .n) (r .gate) b)
+    pub goes : none ≡ standing s r → deliver s b bytes ≡ counted s b r (callOf (s .n) (r .gate) b .answer) (act (s .n) (r .gate) b)
     unfolding deliver
     goes f = by (first (sizeTests (s .n) b)) refl
       where
         v : Option ℕ
         v = callOf (s .n) (r .gate) b .answer
 
-        by : (k : ℕ) → first (sizeTests (s .n) b) ≡ k → takeSized s b bytes k ≡ counted s b bytes v (act (s .n) (r .gate) b)
+        by : (k : ℕ) → first (sizeTests (s .n) b) ≡ k → takeRead s b k (readRecord bytes) ≡ counted s b r v (act (s .n) (r .gate) b)
         by zero z =
-            ap (takeRead s b bytes) e ∙ ap (takeRecord s b bytes r) (sym f)
-            ∙ ap (counted s b bytes v) (sym (sized-right b (callOf (s .n) (r .gate) b) (sizeTests (s .n) b) (sizes-numbered (s .n) b) z))
-        by (suc k) z = sym (ap (counted s b bytes v) (sized-wrong b (callOf (s .n) (r .gate) b) (sizeTests (s .n) b) z))
+            ap (takeRead s b 0) e ∙ ap (takeRecord s b r) (sym f)
+            ∙ ap (counted s b r v) (sym (sized-right b (callOf (s .n) (r .gate) b) (sizeTests (s .n) b) (sizes-numbered (s .n) b) z))
+        by (suc k) z = sym (ap (counted s b r v) (sized-wrong b (callOf (s .n) (r .gate) b) (sizeTests (s .n) b) z))
 
 -- ---- the code's answers
 -- Each part of a contract is found by `search`, here and for `deliver`: a part that asks less is proved too, and is missed by who goes by it.
@@ -86,10 +86,10 @@ module _ (s : Session) (b : Buffers) {a : Delivered} {k : Counted} (e : a ≡ to
       rw e (record { next = search (next-is (p .counts) (p .value)); reply = search reply; count = search (p .counts); leaves = refl })
 
   -- its gate was run
-  pub ran : (bytes : List ℕ) (r : Record) {b′ : Buffers} {answer : Answer} {next : ℕ} → Does (act (s .n) (r .gate) b) answer b′ → next ≡ s .count + 1
+  pub ran : (r : Record) {b′ : Buffers} {answer : Answer} {next : ℕ} → Does (act (s .n) (r .gate) b) answer b′ → next ≡ s .count + 1
       → Counts (s .count) (s .value) next answer k
-      → Delivers (counted (meant s) b bytes (callOf (s .n) (r .gate) b .answer) (act (s .n) (r .gate) b)) a b′
-  ran bytes r {b′} {answer} {next} d one c =
+      → Delivers (counted (meant s) b r (callOf (s .n) (r .gate) b .answer) (act (s .n) (r .gate) b)) a b′
+  ran r {b′} {answer} {next} d one c =
       let work = callOf (s .n) (r .gate) b in
       let o = act (s .n) (r .gate) b in
       let sizes = sizeTests (s .n) b in
@@ -101,7 +101,7 @@ module _ (s : Session) (b : Buffers) {a : Delivered} {k : Counted} (e : a ≡ to
     where
       by : (t : Bool) (o : Outcome) (v : Option ℕ) → (t ≡ false → o .left ≡ b) → k .count ≡ cond t (s .count + 1) (s .count)
           → valueOrNone (k .value) ≡ cond t v (valueOrNone (s .value)) → replies (k .reply) ≡ said (o .says) → b′ ≡ o .left
-          → let taken : Book.Delivery = record { next = raised (meant s) bytes v; says = said (o .says); left = o .left } in
+          → let taken : Book.Delivery = record { next = raised (meant s) r v; says = said (o .says); left = o .left } in
           Delivers (cond t taken (kept (meant s) b (said (o .says)))) (told s k) b′
       by true o v keeps c x y l = record { next = search (next-is c x); reply = search; count = search; leaves = search }
       by false o v keeps c x y l = record { next = search (next-is c x); reply = search; count = search; leaves = search (l ∙ keeps refl) }

@@ -31,7 +31,7 @@ returns-2 c =
     let raised = stood .stand .ensures .next _ (told .next .given .1) in
     search
     (by-is (goes (meant (a .self)) _ (a .bytes .now) it found next)
-    (ran (a .self) _ (c .told .ensures) (a .bytes .now) it (acted .run .ensures) raised (c .before .ran .ensures)))
+    (ran (a .self) _ (c .told .ensures) it (acted .run .ensures) raised (c .before .ran .ensures)))
 
 returns-3 : tie.Need-returns-3
 returns-3 c =
