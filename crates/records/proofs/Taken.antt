@@ -1,0 +1,77 @@
+-- A record that is taken has no NaN, which 6 refuses: so the bytes that it was read from are those that it is written as. Assumes nothing.
+use Prim.Native.Nat.{ℕ, zero, suc}
+use mathlib.Core.Bool.{Bool, true, false, not, _&&_}
+use mathlib.Core.List.{List, [], _∷_, _++_}
+use mathlib.Core.Option.{some}
+use mathlib.Core.Path.{_≡_, refl}
+use native.Mathlib.Omega.{arith}
+use borrow.Author.Tests.{not-false}
+use lib.Dec.{leb}
+use lib.Ieee.{Float, nan, inf, fin, isNan}
+use lib.Ieee.Scale.{finite}
+use Rattle.book.proofs.Refusals.{clear, clear-start, sizes-numbered}
+use Rattle.book.specs.Answers.{_⇒_, first, Buffers, Call, unless, accepts}
+use Rattle.book.specs.Calls.{callOf, act}
+use Rattle.book.specs.Gates.{angleOf, anglesOf, noiseOf, allFinite, finiteTests}
+use Rattle.book.specs.Kernels.{sizeTests, seatTests}
+use Rattle.book.specs.Records.{partsOf, writeRecord, readRecord}
+use Rattle.book.specs.declared.Controls.{Controls}
+use Rattle.book.specs.declared.Gate.{Gate}
+use Rattle.book.specs.declared.Gate.the-variants.{H, X, Y, Z, P, Rx, Ry, Rz, U, Swap, Measure, BitFlip}
+use Rattle.book.specs.declared.Record.{Record}
+use Rattle.wire.specs.Bytes.{Bytes, Each, NotNan}
+use Rattle.records.specs.RoundTrips.{floatsOf}
+use Rattle.records.proofs.BackAndThere.{writes-back}
+
+-- ---- finite numbers
+
+not-nan : (x : Float) → finite x ≡ true → NotNan x
+unfolding isNan
+not-nan (fin s m e) h = tt
+not-nan (inf s) h = tt
+not-nan nan h = absurd (let z : _≡_ {A = ℕ} 0 1 = cc h in omega arith)
+
+both : (x y : Bool) → (x && y) ≡ true → (x ≡ true) × (y ≡ true)
+both true y e = (refl, e)
+both false y e = absurd (let z : _≡_ {A = ℕ} 0 1 = cc e in omega arith)
+
+none-nan : (xs : List Float) → allFinite xs ≡ true → Each NotNan xs
+none-nan [] e = tt
+none-nan (x ∷ xs) e = let (h, more) = both (finite x) (allFinite xs) e in (not-nan x h, none-nan xs more)
+
+-- where 6 does not apply
+passed : (xs : List Float) → first (finiteTests xs) ≡ 0 → Each NotNan xs
+passed xs e = none-nan xs (not-false (allFinite xs) (clear (finiteTests xs) tt e .0))
+
+-- ---- a gate's own tests
+
+behind-seat : (most n t : ℕ) (c : Controls) (xs : List Float) → first (seatTests most n t c ++ finiteTests xs) ≡ 0 → Each NotNan xs
+unfolding seatTests
+behind-seat most n t c xs e = passed xs (clear-start (seatTests most n t c) (finiteTests xs) tt e .1)
+
+own-passed : (n : ℕ) (g : Gate) (b : Buffers) → first (callOf n g b .tests) ≡ 0 → Each NotNan (floatsOf (partsOf g .shape))
+own-passed n (H t c) b e = tt
+own-passed n (X t c) b e = tt
+own-passed n (Y t c) b e = tt
+own-passed n (Z t c) b e = tt
+own-passed n (P t c a) b e = behind-seat _ n t c (angleOf a) e
+own-passed n (Rx t c a) b e = behind-seat _ n t c (angleOf a) e
+own-passed n (Ry t c a) b e = behind-seat _ n t c (angleOf a) e
+own-passed n (Rz t c a) b e = behind-seat _ n t c (angleOf a) e
+own-passed n (U t c g) b e = behind-seat _ n t c (anglesOf g) e
+own-passed n (Swap t u) b e = tt
+own-passed n (Measure t f) b e = tt
+own-passed n (BitFlip t a) b e = passed (noiseOf a) (clear-start (leb n t ⇒ 3 ∷ []) (finiteTests (noiseOf a)) tt e .1)
+
+-- ---- the record
+
+accepted-none : (k : ℕ) (b : Buffers) (c : Call) → accepts (unless k b c .says) ≡ true → k ≡ 0
+accepted-none zero b c e = refl
+accepted-none (suc k) b c e = absurd (let z : _≡_ {A = ℕ} 0 1 = cc e in omega arith)
+
+pub taken-written : (n : ℕ) (b : Buffers) (bs : List ℕ) (r : Record) → Bytes bs → readRecord bs ≡ some r
+    → accepts (act n (r .gate) b .says) ≡ true → writeRecord r ≡ bs
+taken-written n b bs r h e a =
+    let c = callOf n (r .gate) b in
+    let none = accepted-none (first (sizeTests n b ++ c .tests)) b c a in
+    writes-back bs r h e (own-passed n (r .gate) b (clear-start (sizeTests n b) (c .tests) (sizes-numbered n b) none .1))
