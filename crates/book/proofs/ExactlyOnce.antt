@@ -2,7 +2,7 @@
 -- make no start longer; the next record of the list is taken, since all are accepted in order, and makes the longest start one longer. Assumes nothing.
 use Prim.Native.Nat.{ℕ, zero, suc, _+_, _^_, _<_}
 use mathlib.Core.Bool.{Bool, true, false, cond}
-use mathlib.Core.List.{List, [], _∷_, _++_, append-nil, append-assoc}
+use mathlib.Core.List.{List, [], _∷_, _++_, append-nil, append-assoc, flatMap}
 use mathlib.Core.Logic.{inl, inr, ⊎-elim}
 use mathlib.Core.Option.{Option, some, none}
 use mathlib.Core.Path.{_≡_, refl, sym, ap, ap₂, _∙_, subst}
@@ -16,8 +16,8 @@ use Rattle.book.specs.Answers.{refused, again, said, Replied, first, Buf
 use Rattle.book.specs.Calls.{callOf, act}
 use Rattle.book.specs.ExactlyOnce.{Longest, In, Numbered, give, lastValue, OneOf, AllOf, cons, seen, Given, ExactlyOnce}
 use Rattle.book.specs.Kernels.{badSize, mostQubits, badLength, sizeTests}
-use Rattle.book.specs.Records.{readRecord}
-use Rattle.book.specs.Sessions.{Session, fresh, raised, Delivery, kept, counted, toldAgain, standing}
+use Rattle.book.specs.Records.{writeRecord, readRecord}
+use Rattle.book.specs.Sessions.{Session, fresh, marked, raised, Delivery, kept, counted, toldAgain, standing}
 use Rattle.book.specs.Sessions.{takeRecord, takeRead, deliver, deliverAll}
 use Rattle.book.specs.declared.Record.{Record}
 use Rattle.book.proofs.Calls.{sized-right}
@@ -103,6 +103,31 @@ module _ (n : ℕ) where
       subst (λ (m : Buffers). accepts (act n (r .gate) m .says) ≡ true) same
       (went (accepts (act n (r .gate) (y .0) .says)) (some (act n (r .gate) (y .0) .left)) (x .0) (y .2) .0)
 
+-- ---- the mark
+
+marked-append : (m : ℕ) (xs ys : List ℕ) → marked m (xs ++ ys) ≡ marked (marked m xs) ys
+unfolding marked
+marked-append m [] ys = refl
+marked-append m (x ∷ xs) ys = marked-append _ xs ys
+
+bytes-one-more : (xs : List Record) (r : Record) → flatMap writeRecord (xs ++ (r ∷ [])) ≡ flatMap writeRecord xs ++ writeRecord r
+unfolding flatMap
+bytes-one-more [] r = append-nil (writeRecord r)
+bytes-one-more (x ∷ xs) r =
+    ap (λ (l : List ℕ). writeRecord x ++ l) (bytes-one-more xs r) ∙ sym (append-assoc (writeRecord x) (flatMap writeRecord xs) (writeRecord r))
+
+-- no record has no bytes
+pub unmarked : 0 ≡ marked 0 (flatMap writeRecord [])
+unfolding marked flatMap
+unmarked = refl
+
+-- a record more moves the mark by its bytes
+mark-one-more : (xs : List Record) (r : Record) (m : ℕ) → m ≡ marked 0 (flatMap writeRecord xs)
+    → marked m (writeRecord r) ≡ marked 0 (flatMap writeRecord (xs ++ (r ∷ [])))
+mark-one-more xs r m e =
+    ap (λ (k : ℕ). marked k (writeRecord r)) e
+    ∙ sym (marked-append 0 (flatMap writeRecord xs) (writeRecord r)) ∙ sym (ap (marked 0) (bytes-one-more xs r))
+
 -- ---- one delivery
 
 module _ (n own : ℕ) (b₀ : Buffers) (rs : List Record) (g : Given n own b₀ rs) where
@@ -113,6 +138,7 @@ module _ (n own : ℕ) (b₀ : Buffers) (rs : List Record) (g : Given n own b₀
     longest : Longest (s .count) rs xs
     state : give n b₀ (take (s .count) rs) ≡ some b
     value : s .value ≡ lastValue n b₀ none (take (s .count) rs)
+    mark : s .mark ≡ marked 0 (flatMap writeRecord (take (s .count) rs))
     fits : badLength (2 ^ n) b ≡ false
 
   started : (t : Bool) → cond t none (some (fresh n own)) ≡ some (g .session) → (t ≡ false) × (g .session ≡ fresh n own)
@@ -138,7 +164,7 @@ module _ (n own : ℕ) (b₀ : Buffers) (rs : List Record) (g : Given n own b₀
     stays : (ys : List Record) (d : Delivery) (x : Replied) → d ≡ kept s b x → Longest k rs ys → Holds ys (d .next) (d .left)
     unfolding k
     stays ys d x e m =
-        rw e (record { n-is = h .n-is; own-is = h .own-is; longest = m; state = h .state; value = h .value; fits = h .fits })
+        rw e (record { n-is = h .n-is; own-is = h .own-is; longest = m; state = h .state; value = h .value; mark = h .mark; fits = h .fits })
 
     module _ (r : Record) (p : Placed own 0 r rs) where
       -- the tests 9 and 11, that a record of the list passes
@@ -196,6 +222,7 @@ module _ (n own : ℕ) (b₀ : Buffers) (rs : List Record) (g : Given n own b₀
               longest = longest-next r (h .longest) (omega (arith, p .within)) start;
               state = rw (add-one, start) (give-one-more n (take k rs) r b₀ b (h .state) took);
               value = rw (add-one, start) (sym (last-one-more n (take k rs) r b₀ b none (h .state)));
+              mark = rw (add-one, start) (mark-one-more (take k rs) r (s .mark) (h .mark));
               fits = act-fits n b (h .fits) (r .gate);
             })
 
@@ -256,7 +283,7 @@ module _ (n own : ℕ) (b₀ : Buffers) (rs : List Record) (g : Given n own b₀
   begins : Holds [] (g .session) b₀
   begins =
       subst (λ (s : Session). Holds [] s b₀) (sym (started (badSize mostQubits n) (g .fresh) .1))
-      (record { n-is = refl; own-is = refl; longest = longest-none rs; state = refl; value = refl; fits = g .fits })
+      (record { n-is = refl; own-is = refl; longest = longest-none rs; state = refl; value = refl; mark = unmarked; fits = g .fits })
 
 seen-append : (ds : List (List ℕ)) (bytes : List ℕ) → seen ds ++ cons (readRecord bytes) [] ≡ seen (ds ++ (bytes ∷ []))
 seen-append [] bytes = refl
@@ -275,7 +302,7 @@ exactly-once n own b rs g ds bytes all one =
     let bench = deliverAll (record { session = g .session; state = b }) ds in
     let before = steps n own b rs g ds [] (g .session) b all (begins n own b rs g) in
     let h = step n own b rs g (seen ds) (bench .session) (bench .state) bytes one before in
-    rw (← seen-append) (record { longest = h .longest; state = h .state; value = h .value })
+    rw (← seen-append) (record { longest = h .longest; state = h .state; value = h .value; mark = h .mark })
 
 -- ---- a delivery keeps n and the session's number, and all of the session where the count stays
 

@@ -13,7 +13,7 @@ use Rattle.book.specs.Examples.{Example, Hold, twelve, since}
 use Rattle.book.specs.Kernels.{sizeTests, seatTests, swapped}
 use Rattle.book.specs.Measuring.{measured, probability, summed}
 use Rattle.book.specs.Records.{listed}
-use Rattle.book.specs.Sessions.{deliver}
+use Rattle.book.specs.Sessions.{marked, deliver}
 use Rattle.book.specs.State.{tabulate, held, chosen, choice, placed, onPairs}
 
 abbrev alike : List ℕ → List ℕ → Bool
@@ -45,6 +45,6 @@ unfolding twelve fused root first sizeTests seatTests swapped measured probabili
 all-twelve = right-hold twelve tt
 
 pub all-since : Hold since
-unfolding since root first sizeTests seatTests measured probability summed listed deliver tabulate held chosen choice placed onPairs
+unfolding since root first sizeTests seatTests measured probability summed listed marked deliver tabulate held chosen choice placed onPairs
     le lt eq div add sub mul ones
 all-since = right-hold since tt

@@ -2,7 +2,7 @@
 -- "Found in order" and "longest" speak of lists alone: the session's count has no part in them.
 use Prim.Native.Nat.{ℕ, _+_, _^_, _≤_}
 use mathlib.Core.Bool.{false, cond}
-use mathlib.Core.List.{List, [], _∷_, _++_}
+use mathlib.Core.List.{List, [], _∷_, _++_, flatMap}
 use mathlib.Core.Logic.{_⊎_}
 use mathlib.Core.Option.{Option, some, none}
 use mathlib.Core.Path.{_≡_}
@@ -10,8 +10,8 @@ use lib.ListN.{length, take}
 use Rattle.book.specs.Answers.{Buffers, accepts}
 use Rattle.book.specs.Calls.{callOf, act}
 use Rattle.book.specs.Kernels.{badLength}
-use Rattle.book.specs.Records.{readRecord}
-use Rattle.book.specs.Sessions.{Session, start, deliver, deliverAll}
+use Rattle.book.specs.Records.{writeRecord, readRecord}
+use Rattle.book.specs.Sessions.{Session, start, marked, deliver, deliverAll}
 use Rattle.book.specs.declared.Record.{Record}
 
 -- ---- the longest start of a list found in order
@@ -83,11 +83,13 @@ pub record Given (n own : ℕ) (b : Buffers) (rs : List Record) : Type 0 where
   pub accepted : give n b rs ≡ some last
 
 -- After a delivery: the session's count k is the length of the longest start of the list found in order among the records delivered so far,
--- the buffers are what the first k records give, once each, and the value that is kept is that of the last of these, none at k = 0.
+-- the buffers are what the first k records give, once each, the value that is kept is that of the last of these, none at k = 0, and the mark is the one
+-- worked out afresh over their bytes.
 pub record Once (n : ℕ) (b : Buffers) (rs so-far : List Record) (s : Session) (left : Buffers) : Type 0 where
   pub longest : Longest (s .count) rs so-far
   pub state : give n b (take (s .count) rs) ≡ some left
   pub value : s .value ≡ lastValue n b none (take (s .count) rs)
+  pub mark : s .mark ≡ marked 0 (flatMap writeRecord (take (s .count) rs))
 
 -- Whatever was delivered before, `ds`, and whatever comes now, `bytes`.
 abbrev pub ExactlyOnce : Type 0

@@ -1,19 +1,19 @@
 -- The twelve examples of 01, "Proved examples", and those that requests of 02 add: lists, and one statement over a list; proofs/Examples.antt proves it.
 -- Definitions only. Assumes nothing.
 -- An f64 is shown by its bits.
-use Prim.Native.Nat.{ℕ}
+use Prim.Native.Nat.{ℕ, _^_}
 use mathlib.Core.List.{List, [], _∷_, _++_, map}
 use mathlib.Core.Option.{some, none}
 use mathlib.Core.Path.{_≡_}
 use lib.Ieee.{Float, binary64, ofInt, ofBits, toBits, neg}
 use lib.IntN.{pos}
-use lib.ListN.{take}
+use lib.ListN.{take, replicate}
 use Rattle.numbers.specs.Fused.{root}
 use Rattle.book.specs.Answers.{Said, taken, value, refused, Replied, again, said, Buffers, buffers, Outcome}
 use Rattle.book.specs.Calls.{act}
 use Rattle.book.specs.Gates.{F}
 use Rattle.book.specs.Records.{writeRecord}
-use Rattle.book.specs.Sessions.{Session, fresh, deliver}
+use Rattle.book.specs.Sessions.{Session, fresh, marked, deliver}
 use Rattle.book.specs.State.{controlled, uncontrolled}
 use Rattle.book.specs.declared.Gate.{Gate}
 use Rattle.book.specs.declared.Gate.the-variants.{H, X, Y, Swap, Measure, BitFlip}
@@ -81,6 +81,13 @@ toldValues s b (bytes ∷ more) =
     let d = deliver s b bytes in
     toldBy (d .says) ++ toldValues (d .next) (d .left) more
 
+-- the marks, one delivery after the other
+abbrev pub marks : Session → Buffers → List (List ℕ) → List ℕ
+marks s b [] = []
+marks s b (bytes ∷ more) =
+    let d = deliver s b bytes in
+    d .next .mark ∷ marks (d .next) (d .left) more
+
 -- a refusal's number
 abbrev pub refusal : Said → List ℕ
 refusal taken = []
@@ -141,6 +148,8 @@ twelve =
 
 -- Request 03: 1, 2 is off length 1, and outcome 1 is scaled by its own half; a half of zeros is refused with 7.
 -- Request 04: a measurement that comes again tells its outcome, behind an X no more, and behind a flip that did not run, which tells 0, neither.
+-- Request 06: bytes 01 02 give 34, and 1F seven times 6, a carry dropped; a repeat and an early record leave the mark;
+-- X with control 5 and X with control 8 have one mark.
 unfoldable pub since : List Example
 unfolding ofInt ofBits toBits
 since =
@@ -148,6 +157,10 @@ since =
     ∷ refusal (forced 1 halfOfZeros .says) is (7 ∷ [])
     ∷ toldValues (fresh 1 7) (real (0 ∷ 1 ∷ []))
     (measuring 0 ∷ measuring 0 ∷ xNumbered 1 ∷ measuring 0 ∷ xNumbered 1 ∷ notFlipping 2 ∷ notFlipping 2 ∷ measuring 0 ∷ []) is (1 ∷ 0 ∷ [])
+    ∷ map (marked 0) ((0x01 ∷ 0x02 ∷ []) ∷ replicate 7 0x1F ∷ []) is (34 ∷ 6 ∷ [])
+    ∷ marks (fresh 1 7) (real (1 ∷ 0 ∷ [])) (map xNumbered (0 ∷ 0 ∷ 2 ∷ 1 ∷ []))
+    is (0x55900236 ∷ 0x55900236 ∷ 0x55900236 ∷ 0x1D912561 ∷ [])
+    ∷ map (λ mask. marked 0 (numbered 0 (X 0 (controlled mask)))) (2 ^ 5 ∷ 2 ^ 8 ∷ []) is (0x55900256 ∷ 0x55900256 ∷ [])
     ∷ []
 
 -- each example of a list holds

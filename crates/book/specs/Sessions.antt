@@ -1,5 +1,5 @@
 -- Starting a session, a delivery, and a run of deliveries. Definitions only. Assumes nothing.
-use Prim.Native.Nat.{ℕ, zero, suc, _+_}
+use Prim.Native.Nat.{ℕ, zero, suc, _+_, _*_, _/_, _%_, _^_}
 use mathlib.Core.Bool.{cond, not}
 use mathlib.Core.List.{List, [], _∷_}
 use mathlib.Core.Option.{Option, some, none}
@@ -7,26 +7,32 @@ use lib.Dec.{ltb, eqb}
 use Rattle.book.specs.Answers.{refused, Replied, again, said, first, Buffers, Outcome, outcomeOf, accepts}
 use Rattle.book.specs.Calls.{callOf}
 use Rattle.book.specs.Kernels.{badSize, mostQubits, sizeTests}
-use Rattle.book.specs.Records.{readRecord}
+use Rattle.book.specs.Records.{writeRecord, readRecord}
 use Rattle.book.specs.declared.Record.{Record}
 
--- a session is n, its number, the count of records taken, and the value of the last of them, none where its gate has none
+-- a session is n, its number, the count of records taken, the value of the last of them, none where its gate has none, and the mark over their bytes
 pub record Session : Type 0 where
   pub n : ℕ
   pub number : ℕ
   pub count : ℕ
   pub value : Option ℕ
+  pub mark : ℕ
 
--- it starts at 0, with none; a bad n is refusal 1, and gives no session
+-- it starts at 0, with none, and with mark 0; a bad n is refusal 1, and gives no session
 abbrev pub fresh : ℕ → ℕ → Session
-fresh n own = record { n = n; number = own; count = 0; value = none }
+fresh n own = record { n = n; number = own; count = 0; value = none; mark = 0 }
 
 abbrev pub start : ℕ → ℕ → Option Session
 start n own = cond (badSize mostQubits n) none (some (fresh n own))
 
--- this record was taken, with this value
+-- for each byte the mark is turned left by 5 and the byte is added, dropping any carry out of 32 bits
+unfoldable pub marked : ℕ → List ℕ → ℕ
+marked mark [] = mark
+marked mark (byte ∷ more) = marked ((mark * 2 ^ 5 % 2 ^ 32 + mark / 2 ^ 27 + byte) % 2 ^ 32) more
+
+-- a record was taken, with this value: its bytes move the mark
 abbrev pub raised : Session → Record → Option ℕ → Session
-raised s r v = record { n = s .n; number = s .number; count = s .count + 1; value = v }
+raised s r v = record { n = s .n; number = s .number; count = s .count + 1; value = v; mark = marked (s .mark) (writeRecord r) }
 
 -- ---- a delivery: the next session, what is said, and what the buffers hold
 

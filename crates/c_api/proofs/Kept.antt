@@ -19,7 +19,7 @@ use Rattle.sessions.specs.Deliveries.{Delivers}
 use Rattle.sessions.specs.declared.Delivered.{Delivered}
 use Rattle.c_api.specs.Tells.{becoming, TellsDelivery, fedNumber, Words, words, TellsFeed}
 
-module _ {w w′ : List ℕ} {s : Book.Session} (k : Keeps w (s .count) (s .value) w′) (own : Own (sessionIn w) s) where
+module _ {w w′ : List ℕ} {s : Book.Session} (k : Keeps w (s .count) (s .value) (s .mark) w′) (own : Own (sessionIn w) s) where
   session-is : sessionIn w′ ≡ s
   session-is = session-kept k own
 
@@ -28,7 +28,7 @@ module _ {w w′ : List ℕ} {s : Book.Session} (k : Keeps w (s .count) (s .valu
 
 -- a delivery
 pub tells : {w w′ bytes : List ℕ} {b b′ : Buffers} {a : Delivered} {code : ℕ}
-    → Delivers (deliver (sessionIn w) b bytes) a b′ → Keeps w (a .next .count) (valueOrNone (a .next .value)) w′
+    → Delivers (deliver (sessionIn w) b bytes) a b′ → Keeps w (a .next .count) (valueOrNone (a .next .value)) (a .next .mark) w′
     → code ≡ repliedNumber (replies (a .reply)) → TellsDelivery w b bytes code w′ b′
 tells {w} {w′} {bytes} {b} {b′} {a} x k e =
     let own = subst (Own (sessionIn w)) (sym (x .next)) (keeps-its-own (sessionIn w) b bytes) in
@@ -46,7 +46,7 @@ due-own x (some bytes) = keeps-its-own (x .session) (x .state) bytes
 
 -- a piece
 pub tells-fed : {w w′ held held′ piece : List ℕ} {kept kept′ used code : ℕ} {b b′ : Buffers} {s : Book.Session} {told : List Answered}
-    → Takes (form (sessionIn w) kept held) b piece used told (form s kept′ held′) b′ → Keeps w (s .count) (s .value) w′ → code ≡ fedNumber told kept′
+    → Takes (form (sessionIn w) kept held) b piece used told (form s kept′ held′) b′ → Keeps w (s .count) (s .value) (s .mark) w′ → code ≡ fedNumber told kept′
     → TellsFeed (words w kept held) b piece code used (words w′ kept′ held′) b′
 tells-fed {w} {w′} {held} {held′} {piece} {kept} {kept′} {b = b} {b′} {s} {told} t k e =
     let due = step (restOf held kept) piece .due in

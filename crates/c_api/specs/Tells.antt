@@ -39,7 +39,7 @@ TellsPlainly = (o : Outcome) (code : ℕ) (after : Buffers) → Tells o code aft
 
 -- words in which a session stays as it is, or becomes this one
 abbrev pub becoming : List ℕ → Book.Session → List ℕ
-becoming w s = keptWords w (s .count) (s .value)
+becoming w s = keptWords w (s .count) (s .value) (s .mark)
 
 -- The whole contract of a delivery to the session that eight words are: the number returned, the session after it and the words it is in, and every
 -- place of both buffers.

@@ -21,7 +21,13 @@ ghost use Rattle.c_api.specs.Tells.{TellsStart, TellsDelivery};
 pub(crate) fn session_in(words: &[u32; 8]) -> Session
     ensures { λ r. ⌜ meant r ≡ sessionIn (now (words .entry)) ⌝ }
 {
-    Session::resume(words[0], words[1], count_in(words), value_in(words))
+    Session::resume(
+        words[0],
+        words[1],
+        count_in(words),
+        value_in(words),
+        words[4],
+    )
 }
 
 // A session of n qubits that starts, if it can.
@@ -51,7 +57,7 @@ pub extern "C" fn gate_bench_deliver(
     let delivered = session_in(session).deliver(FAST, bytes, reals, imags);
     let next = delivered.next;
     let value = next.value;
-    keep(session, next.count, value);
+    keep(session, next.count, value, next.mark);
     let reply = delivered.reply;
     tell_reply(reply)
 }

@@ -54,7 +54,7 @@ pub extern "C" fn gate_bench_feed(
     let next = fed.session;
     let value = next.value;
     let told = fed.told;
-    keep(session, next.count, value);
+    keep(session, next.count, value, next.mark);
     *kept = fed.kept;
     *used = fed.used;
     tell_told(told, fed.kept, next.count)

@@ -1,2 +1,2 @@
--- What an answer makes of the count and of the value that is kept.
+-- What an answer makes of the count, of the value that is kept and of the mark.
 pub mod Counts

@@ -1,37 +1,51 @@
-// What a record's answer makes of its session's count, and of the value that the session keeps.
+// What a record's answer makes of its session's count, of the value that the session keeps, and of its mark.
 use book::Answer;
 use book::Reply;
 use book::ValueOrNone;
+use marks::marked;
 ghost use mathlib.Core.Path.{_≡_};
 ghost use Rattle.book.specs.Answers.{says, replies};
 ghost use Rattle.counting.specs.Counts.{Counts, behind, Passes};
 
-// The count after a record, the value that is kept, and the record's reply.
+// The count after a record, the value that is kept, the mark, and the record's reply.
 pub struct Counted {
     pub count: u16,
     pub value: ValueOrNone,
+    pub mark: u32,
     pub reply: Reply,
 }
 
-// A record that was run: one that was taken makes the count `next`, and its own value is kept, or none; one that was refused leaves both.
-pub fn ran(count: u16, value: ValueOrNone, next: u16, answer: Answer) -> Counted
-    ensures { λ r. ⌜ Counts count value next answer r ⌝ }
+// A record that was run, of these bytes: one that was taken makes the count `next`, its own value is kept, or none, and its bytes move the mark; one that was
+// refused leaves all three.
+pub fn ran(
+    count: u16,
+    value: ValueOrNone,
+    mark: u32,
+    next: u16,
+    bytes: &[u8],
+    answer: Answer,
+) -> Counted
+    ensures { λ r. ⌜ Counts count value mark next (now (bytes .entry)) answer r ⌝ }
 {
     let reply = Reply::Said(answer);
+    let moved = marked(mark, bytes);
     match answer {
         Answer::Taken => Counted {
             count: next,
             value: ValueOrNone::None,
+            mark: moved,
             reply,
         },
         Answer::Value(v) => Counted {
             count: next,
             value: ValueOrNone::Value(v),
+            mark: moved,
             reply,
         },
         Answer::Refused(_) => Counted {
             count,
             value,
+            mark,
             reply,
         },
     }
@@ -48,14 +62,15 @@ fn behind(size: Answer, reply: Reply) -> Reply
     }
 }
 
-// A record that was not run leaves both.
-pub fn passed(count: u16, value: ValueOrNone, size: Answer, reply: Reply) -> Counted
-    ensures { λ r. ⌜ Passes count value size reply r ⌝ }
+// A record that was not run leaves all three.
+pub fn passed(count: u16, value: ValueOrNone, mark: u32, size: Answer, reply: Reply) -> Counted
+    ensures { λ r. ⌜ Passes count value mark size reply r ⌝ }
 {
     let reply = behind(size, reply);
     Counted {
         count,
         value,
+        mark,
         reply,
     }
 }

@@ -54,6 +54,7 @@ pub(crate) fn forms_differ(a: Feed, b: Feed) -> bool {
     let v = s.value;
     let w = t.value;
     (s.count != t.count)
+        | (s.mark != t.mark)
         | values_differ(v, w)
         | (a.kept != b.kept)
         | held_differ(&a.held, &b.held, a.kept)

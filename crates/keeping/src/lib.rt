@@ -1,4 +1,4 @@
-// A session as a caller of the archive keeps it: eight words. n, its number, the count, the value, and four for requests to come.
+// A session as a caller of the archive keeps it: eight words. n, its number, the count, the value, the mark, and three for requests to come.
 // Any eight words are a session, and words that no delivery has to change stay as they are.
 use book::ValueOrNone;
 ghost use mathlib.Core.Path.{_≡_};
@@ -47,21 +47,22 @@ pub fn begin(words: &mut [u32; 8], n: u32, number: u32)
     *words = [n, number, 0, 0, 0, 0, 0, 0];
 }
 
-// Where the count moved, it and the value's word are written.
-fn write(words: &mut [u32], count: u16, word: u32)
-    requires { ⌜ 4 ≤ length (now words) ⌝ }
-    ensures { λ _. ⌜ now (words .exit) ≡ written (now (words .entry)) count word ⌝ }
+// Where the count moved, it, the value's word and the mark are written.
+fn write(words: &mut [u32], count: u16, word: u32, mark: u32)
+    requires { ⌜ 5 ≤ length (now words) ⌝ }
+    ensures { λ _. ⌜ now (words .exit) ≡ written (now (words .entry)) count word mark ⌝ }
 {
     if words[2] % 65536 != count as u32 {
         words[2] = count as u32;
         words[3] = word;
+        words[4] = mark;
     }
 }
 
 // What a delivery came to.
-pub fn keep(words: &mut [u32; 8], count: u16, value: ValueOrNone)
-    ensures { λ _. ⌜ Keeps (now (words .entry)) count (valueOrNone value) (now (words .exit)) ⌝ }
+pub fn keep(words: &mut [u32; 8], count: u16, value: ValueOrNone, mark: u32)
+    ensures { λ _. ⌜ Keeps (now (words .entry)) count (valueOrNone value) mark (now (words .exit)) ⌝ }
 {
     let word = word_of(value);
-    write(words, count, word)
+    write(words, count, word, mark)
 }

@@ -3,7 +3,7 @@
 use Prim.Native.Nat.{ℕ}
 use mathlib.Core.List.{List, [], _∷_, _++_}
 use mathlib.Core.Path.{_≡_, refl, sym, ap, _∙_, subst}
-use Rattle.book.proofs.ExactlyOnce.{exactly-once, fresh-is}
+use Rattle.book.proofs.ExactlyOnce.{exactly-once, fresh-is, unmarked}
 use Rattle.book.proofs.Found.{longest-none}
 use Rattle.book.specs.Answers.{Buffers}
 use Rattle.book.specs.ExactlyOnce.{OneOf, AllOf, seen, Given, Once}
@@ -35,7 +35,7 @@ module _ {n own : ℕ} {b : Buffers} {rs : List Record} (g : Given n own b rs) w
 
   -- before any delivery
   before-any : After [] (bench (fresh n own) b)
-  before-any = record { longest = longest-none rs; state = refl; value = refl }
+  before-any = record { longest = longest-none rs; state = refl; value = refl; mark = unmarked }
 
   after-last : (ds : List (List ℕ)) (bytes : List ℕ) → AllOf own rs (ds ++ (bytes ∷ []))
       → After (ds ++ (bytes ∷ [])) (deliverAll (bench (fresh n own) b) (ds ++ (bytes ∷ [])))

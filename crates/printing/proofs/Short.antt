@@ -13,7 +13,7 @@ use Rattle.delivery_lines.specs.Deliveries.{saying, valueTold, adding, delivery
 use Rattle.io.specs.Digits.{digits, glyph}
 use Rattle.once.specs.Answered.{Answered}
 use Rattle.stream.specs.Lines.{amplitudeLine, endLine, cutLine}
-use Rattle.words.specs.Words.{decimalIn, decimal, bits}
+use Rattle.words.specs.Words.{decimalIn, decimal, bits, markDigits}
 use Rattle.printing.specs.Printed.{answerLines, stateLines, closing}
 
 both : (xs ys : List ℕ) (j k : ℕ) → length xs ≤ j → length ys ≤ k → length (xs ++ ys) ≤ j + k
@@ -44,6 +44,10 @@ bits-short : (x : Float) → length (bits x) ≤ 16
 unfolding bits
 bits-short x = digits-short 16 16 (toBits binary64 x)
 
+mark-short : (mark : ℕ) → length (markDigits mark) ≤ 8
+unfolding markDigits
+mark-short mark = digits-short 16 8 mark
+
 -- ---- lines
 
 saying-short : (r : Replied) → length (saying r) ≤ 29
@@ -63,7 +67,7 @@ amplitude-short : (i : ℕ) (re im : Float) → length (amplitudeLine i re im) �
 amplitude-short i re im = simp length-append (omega (arith, decimal-short i, bits-short re, bits-short im))
 
 end-short : (s : Session) → length (endLine s) ≤ 128
-end-short s = simp length-append (omega (arith, decimal-short (s .count)))
+end-short s = simp length-append (omega (arith, decimal-short (s .count), mark-short (s .mark)))
 
 -- ---- all of them
 

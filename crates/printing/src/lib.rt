@@ -71,21 +71,22 @@ fn put_state(out: &mut [u8], at: usize, reals: &[f64], imags: &[f64]) -> usize
     next
 }
 
-// CUT, the A lines and END, of the session with this count.
+// CUT, the A lines and END, of the session with this count and this mark.
 pub fn put_closing(
     out: &mut [u8],
     at: usize,
     cut: bool,
     count: u16,
+    mark: u32,
     reals: &[f64],
     imags: &[f64],
 ) -> usize
-    ensures { λ r. ⌜ ((s : Session) → s .count ≡ count
+    ensures { λ r. ⌜ ((s : Session) → s .count ≡ count → s .mark ≡ mark
         → Put (closing cut s (buffers (now (reals .entry)) (now (imags .entry)))) (now (out .entry)) at r (now (out .exit))) ⌝ }
 {
     let behind_cut = put_cut(out, at, cut);
     let behind_state = put_state(out, behind_cut, reals, imags);
     let mut line = [0u8; 128];
-    let n = stream::end_line(&mut line, count);
+    let n = stream::end_line(&mut line, count, mark);
     put(out, behind_state, &line[..n])
 }

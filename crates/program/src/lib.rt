@@ -119,5 +119,13 @@ pub fn put_end(end: Running, reals: &[f64], imags: &[f64], out: &mut [u8], at: u
 {
     let feed = end.feed;
     let session = feed.session;
-    put_closing(out, at, feed.is_cut(), session.count, reals, imags)
+    put_closing(
+        out,
+        at,
+        feed.is_cut(),
+        session.count,
+        session.mark,
+        reals,
+        imags,
+    )
 }

@@ -33,10 +33,10 @@ reply-back (Again v) = ap Again (value-back v)
 reply-back (Said a) = ap Said (answer-back a)
 
 abbrev sessionOf : Book.Session → Session
-sessionOf s = resumed (s .n) (s .number) (s .count) (toldBack (s .value))
+sessionOf s = resumed (s .n) (s .number) (s .count) (toldBack (s .value)) (s .mark)
 
 session-back : (s : Session) → sessionOf (meant s) ≡ s
-session-back s = ap (resumed (s .n) (s .number) (s .count)) (value-back (s .value))
+session-back s = ap (λ (v : ValueOrNone). resumed (s .n) (s .number) (s .count) v (s .mark)) (value-back (s .value))
 
 abbrev startedBy : Gives Book.Session → Started
 startedBy (gives s) = Fresh (sessionOf s)

@@ -10,9 +10,9 @@ use Rattle.book.proofs.Refusals.{sizes-numbered}
 use Rattle.book.specs.Answers.{Said, refused, valueOrNone, Replied, said, replies, first, Buffers, Outcome, Call, accepted, unless, accepts, Does}
 use Rattle.book.specs.Calls.{callOf, act}
 use Rattle.book.specs.Kernels.{sizeTests}
-use Rattle.book.specs.Records.{readRecord}
+use Rattle.book.specs.Records.{writeRecord, readRecord}
 use Rattle.book.specs.Sessions as Book
-use Rattle.book.specs.Sessions.{raised, kept, counted, standing, takeRecord, takeRead, deliver}
+use Rattle.book.specs.Sessions.{marked, raised, kept, counted, standing, takeRecord, takeRead, deliver}
 use Rattle.book.specs.declared.Answer.{Answer}
 use Rattle.book.specs.declared.Record.{Record}
 use Rattle.book.specs.declared.Reply.{Reply}
@@ -72,24 +72,25 @@ kept-by zero b c v = by (c .answer)
 kept-by (suc k) b c v = refl
 
 module _ (s : Session) (b : Buffers) {a : Delivered} {k : Counted} (e : a ≡ told s k) where
-  abbrev counting : ℕ → Option ℕ → Book.Session
-  counting count v = record { n = s .n; number = s .number; count = count; value = v }
+  abbrev counting : ℕ → Option ℕ → ℕ → Book.Session
+  counting count v mark = record { n = s .n; number = s .number; count = count; value = v; mark = mark }
 
-  next-is : {count : ℕ} {v : Option ℕ} → k .count ≡ count → valueOrNone (k .value) ≡ v → meant (told s k .next) ≡ counting count v
-  next-is c x = ap₂ counting c x
+  next-is : {count mark : ℕ} {v : Option ℕ} → k .count ≡ count → valueOrNone (k .value) ≡ v → k .mark ≡ mark
+      → meant (told s k .next) ≡ counting count v mark
+  next-is c x m = λ i. counting (c i) (x i) (m i)
 
   -- the record was not run
-  pub passes : {x : Reply} {size : Answer} → Judges (sizeTests (s .n) b) size → Passes (s .count) (s .value) size x k
+  pub passes : {x : Reply} {size : Answer} → Judges (sizeTests (s .n) b) size → Passes (s .count) (s .value) (s .mark) size x k
       → Delivers (unsized (meant s) b (replies x)) a b
   passes {x} j p =
       let reply = p .reply ∙ ap (λ (y : Said). behind y (replies x)) (j .is) in
-      rw e (record { next = search (next-is (p .counts) (p .value)); reply = search reply; count = search (p .counts); leaves = refl })
+      rw e (record { next = search (next-is (p .counts) (p .value) (p .marks)); reply = search reply; count = search (p .counts); leaves = refl })
 
-  -- its gate was run
-  pub ran : (r : Record) {b′ : Buffers} {answer : Answer} {next : ℕ} → Does (act (s .n) (r .gate) b) answer b′ → next ≡ s .count + 1
-      → Counts (s .count) (s .value) next answer k
+  -- its gate was run; the bytes of one that was taken are those that it is written as
+  pub ran : (bytes : List ℕ) (r : Record) {b′ : Buffers} {answer : Answer} {next : ℕ} → Does (act (s .n) (r .gate) b) answer b′ → next ≡ s .count + 1
+      → (accepts (act (s .n) (r .gate) b .says) ≡ true → writeRecord r ≡ bytes) → Counts (s .count) (s .value) (s .mark) next bytes answer k
       → Delivers (counted (meant s) b r (callOf (s .n) (r .gate) b .answer) (act (s .n) (r .gate) b)) a b′
-  ran r {b′} {answer} {next} d one c =
+  ran bytes r {b′} {answer} {next} d one written c =
       let work = callOf (s .n) (r .gate) b in
       let o = act (s .n) (r .gate) b in
       let sizes = sizeTests (s .n) b in
@@ -97,11 +98,16 @@ module _ (s : Session) (b : Buffers) {a : Delivered} {k : Counted} (e : a ≡ to
       c .counts ∙ ap₂ (λ (x : Said) (j : ℕ). cond (accepts x) j (s .count)) (d .answers) one in
       let value : valueOrNone (k .value) ≡ cond (accepts (o .says)) (work .answer) (valueOrNone (s .value)) =
       c .value ∙ ap (λ (x : Said). keptBy x (valueOrNone (s .value))) (d .answers) ∙ kept-by (first (sizes ++ work .tests)) b work (valueOrNone (s .value)) in
-      rw e (by (accepts (o .says)) o (work .answer) (refused-keeps b work sizes) counts value (c .reply ∙ ap said (d .answers)) (d .leaves))
+      let mark : k .mark ≡ cond (accepts (o .says)) (marked (s .mark) bytes) (s .mark) =
+      c .marks ∙ ap (λ (x : Said). cond (accepts x) (marked (s .mark) bytes) (s .mark)) (d .answers) in
+      rw e (by (accepts (o .says)) o (work .answer) (refused-keeps b work sizes) written counts value mark (c .reply ∙ ap said (d .answers)) (d .leaves))
     where
-      by : (t : Bool) (o : Outcome) (v : Option ℕ) → (t ≡ false → o .left ≡ b) → k .count ≡ cond t (s .count + 1) (s .count)
-          → valueOrNone (k .value) ≡ cond t v (valueOrNone (s .value)) → replies (k .reply) ≡ said (o .says) → b′ ≡ o .left
+      by : (t : Bool) (o : Outcome) (v : Option ℕ) → (t ≡ false → o .left ≡ b) → (t ≡ true → writeRecord r ≡ bytes)
+          → k .count ≡ cond t (s .count + 1) (s .count) → valueOrNone (k .value) ≡ cond t v (valueOrNone (s .value))
+          → k .mark ≡ cond t (marked (s .mark) bytes) (s .mark) → replies (k .reply) ≡ said (o .says) → b′ ≡ o .left
           → let taken : Book.Delivery = record { next = raised (meant s) r v; says = said (o .says); left = o .left } in
           Delivers (cond t taken (kept (meant s) b (said (o .says)))) (told s k) b′
-      by true o v keeps c x y l = record { next = search (next-is c x); reply = search; count = search; leaves = search }
-      by false o v keeps c x y l = record { next = search (next-is c x); reply = search; count = search; leaves = search (l ∙ keeps refl) }
+      by true o v keeps written c x m y l =
+          record { next = search (next-is c x (m ∙ ap (marked (s .mark)) (sym (written refl)))); reply = search; count = search; leaves = search }
+      by false o v keeps written c x m y l =
+          record { next = search (next-is c x m); reply = search; count = search; leaves = search (l ∙ keeps refl) }

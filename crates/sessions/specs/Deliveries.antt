@@ -14,10 +14,10 @@ use Rattle.sessions.specs.declared.Started.{Started}
 use Rattle.sessions.specs.declared.Started.the-variants.{Fresh, Refused as Unstarted}
 
 abbrev pub meant : Session → Book.Session
-meant s = record { n = s .n; number = s .number; count = s .count; value = valueOrNone (s .value) }
+meant s = record { n = s .n; number = s .number; count = s .count; value = valueOrNone (s .value); mark = s .mark }
 
-abbrev pub resumed : ℕ → ℕ → ℕ → ValueOrNone → Session
-resumed n own count v = record { n = n; number = own; count = count; value = v }
+abbrev pub resumed : ℕ → ℕ → ℕ → ValueOrNone → ℕ → Session
+resumed n own count v mark = record { n = n; number = own; count = count; value = v; mark = mark }
 
 -- a session as it is started, or a refusal's number
 abbrev pub startedSays : Started → Gives Book.Session
@@ -26,7 +26,7 @@ startedSays (Unstarted x) = denied (numberOf x)
 
 -- the next session, and its answer, which carries the count after it
 abbrev pub told : Session → Counted → Delivered
-told s c = record { next = resumed (s .n) (s .number) (c .count) (c .value); reply = c .reply; count = c .count }
+told s c = record { next = resumed (s .n) (s .number) (c .count) (c .value) (c .mark); reply = c .reply; count = c .count }
 
 -- a record that is not run: 1 and 2 come before its reply
 abbrev pub unsized : Book.Session → Buffers → Replied → Book.Delivery

@@ -18,12 +18,13 @@ ghost use Rattle.book.specs.Sessions as Book;
 ghost use Rattle.once.specs.AllOnce.{cut, AllOnce};
 ghost use Rattle.sessions.specs.Deliveries.{meant, startedSays, resumed, told, unsized, Delivers};
 
-// n qubits, the session's number, the count of records taken, and the value of the last of them.
+// n qubits, the session's number, the count of records taken, the value of the last of them, and the mark over their bytes.
 pub struct Session {
     pub n: u32,
     pub number: u32,
     pub count: u16,
     pub value: ValueOrNone,
+    pub mark: u32,
 }
 
 // A delivery hands back the next session, its reply, and the count after it.
@@ -41,14 +42,15 @@ pub enum Started {
 
 impl Session {
     // The one place where a session is made: from what a caller kept of it.
-    pub fn resume(n: u32, number: u32, count: u16, value: ValueOrNone) -> Session
-        ensures { λ r. ⌜ r ≡ resumed n number count value ⌝ }
+    pub fn resume(n: u32, number: u32, count: u16, value: ValueOrNone, mark: u32) -> Session
+        ensures { λ r. ⌜ r ≡ resumed n number count value mark ⌝ }
     {
         Session {
             n,
             number,
             count,
             value,
+            mark,
         }
     }
 
@@ -56,7 +58,7 @@ impl Session {
     pub fn fresh(n: u32, number: u32) -> Session
         ensures { λ r. ⌜ meant r ≡ Book.fresh n number ⌝ }
     {
-        Session::resume(n, number, 0, ValueOrNone::None)
+        Session::resume(n, number, 0, ValueOrNone::None, 0)
     }
 
     pub fn start(n: u32, number: u32) -> Started
@@ -78,7 +80,7 @@ impl Session {
         let count = counted.count;
         let reply = counted.reply;
         let value = counted.value;
-        let next = Session::resume(self.n, self.number, count, value);
+        let next = Session::resume(self.n, self.number, count, value, counted.mark);
         Delivered { next, reply, count }
     }
 
@@ -88,7 +90,7 @@ impl Session {
     {
         let size = judging::size(reals, imags, self.n);
         let value = self.value;
-        self.told(counting::passed(self.count, value, size, reply))
+        self.told(counting::passed(self.count, value, self.mark, size, reply))
     }
 
     // Only the next record goes on to its gate, whose own tests begin with 1 and 2: so a delivery is judged once.
@@ -109,7 +111,7 @@ impl Session {
             Standing::Next(next) => {
                 let gate = it.gate;
                 let answer = run(engine, self.n, gate, reals, imags);
-                self.told(counting::ran(self.count, value, next, answer))
+                self.told(counting::ran(self.count, value, self.mark, next, bytes, answer))
             }
             Standing::Answered(reply) => self.passed(reply, reals, imags),
         }

@@ -2,6 +2,7 @@
 pub use delivery_lines::delivery_line;
 use words::add;
 use words::add_bits;
+use words::add_mark;
 use words::add_number;
 ghost use mathlib.Core.Path.{_≡_};
 ghost use Rattle.book.specs.Sessions.{Session};
@@ -21,14 +22,16 @@ pub fn amplitude_line(out: &mut [u8; 128], index: u64, re: f64, im: f64) -> usiz
     add(out, behind_im, b"\n")
 }
 
-// Of the session with this count.
-pub fn end_line(out: &mut [u8; 128], count: u16) -> usize
-    ensures of { λ r. ⌜ ((s : Session) → s .count ≡ count → Line (endLine s) (now (out .entry)) r (now (out .exit))) ⌝ }
+// Of the session with this count and this mark.
+pub fn end_line(out: &mut [u8; 128], count: u16, mark: u32) -> usize
+    ensures of { λ r. ⌜ ((s : Session) → s .count ≡ count → s .mark ≡ mark → Line (endLine s) (now (out .entry)) r (now (out .exit))) ⌝ }
     ensures counts { λ r. ⌜ Counts r (now (out .exit)) ⌝ }
 {
     let behind_end = add(out, 0, b"END ");
     let behind_count = add_number(out, behind_end, count as u64);
-    add(out, behind_count, b"\n")
+    let behind_word = add(out, behind_count, b" MARK ");
+    let behind_mark = add_mark(out, behind_word, mark);
+    add(out, behind_mark, b"\n")
 }
 
 pub fn cut_line(out: &mut [u8; 128]) -> usize

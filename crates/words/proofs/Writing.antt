@@ -13,7 +13,7 @@ use borrow.Author.Tests.{lt-ltb, le-ltb}
 use Rattle.io.specs.Digits.{glyph, digits, Fewest}
 use Rattle.stores.proofs.Stored.{store-then, store-first}
 use Rattle.stores.specs.Stores.{store}
-use Rattle.words.specs.Words.{decimalIn, decimal, bits, Added, Line}
+use Rattle.words.specs.Words.{decimalIn, decimal, bits, markDigits, Added, Line}
 
 -- ---- byte after byte
 
@@ -119,3 +119,7 @@ decimal-is k n h q = fewest 20 k n h q
 pub bits-is : (x : Float) {n : ℕ} {l l₁ : List ℕ} {at at₁ : ℕ} → n ≡ toBits binary64 x → Added (digits 16 16 n) 16 l at at₁ l₁ → Added (bits x) 16 l at at₁ l₁
 unfolding bits
 bits-is x e p = rw (← e) p
+
+pub mark-is : (mark : ℕ) {l l₁ : List ℕ} {at at₁ : ℕ} → Added (digits 16 8 mark) 8 l at at₁ l₁ → Added (markDigits mark) 8 l at at₁ l₁
+unfolding markDigits
+mark-is mark p = p

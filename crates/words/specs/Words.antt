@@ -1,4 +1,4 @@
--- What stands in a line: numbers in decimal, an f64's bits; and where words and lines stand. Definitions only. Assumes nothing.
+-- What stands in a line: numbers in decimal, an f64's bits, a mark; and where words and lines stand. Definitions only. Assumes nothing.
 use Prim.Native.Nat.{ℕ, zero, suc, _+_, _/_, _%_, _≤_}
 use mathlib.Core.Bool.{cond}
 use mathlib.Core.List.{List, [], _∷_, _++_}
@@ -22,6 +22,10 @@ decimal n = decimalIn 20 n
 -- the bits of an f64 in 16 hex digits; a NaN's are 7ff8000000000000
 unfoldable pub bits : Float → List ℕ
 bits x = digits 16 16 (toBits binary64 x)
+
+-- a mark in 8 hex digits
+unfoldable pub markDigits : ℕ → List ℕ
+markDigits mark = digits 16 8 mark
 
 -- ---- where they stand
 

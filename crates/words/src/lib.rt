@@ -3,7 +3,7 @@
 ghost use Prim.Native.Nat.{_+_, _^_, _≤_, _<_};
 ghost use lib.ListN.{length};
 ghost use Rattle.io.specs.Digits.{digits};
-ghost use Rattle.words.specs.Words.{decimal, bits, Added};
+ghost use Rattle.words.specs.Words.{decimal, bits, markDigits, Added};
 
 pub fn add(out: &mut [u8], at: usize, words: &[u8]) -> usize
     requires { ⌜ at + length (now words) ≤ length (now out) ⌝ }
@@ -42,4 +42,11 @@ pub fn add_bits(out: &mut [u8], at: usize, x: f64) -> usize
     ensures { λ r. ⌜ Added (bits x) 16 (now (out .entry)) at r (now (out .exit)) ⌝ }
 {
     add_hex(out, at, wire::bits_of(x), 16)
+}
+
+pub fn add_mark(out: &mut [u8], at: usize, mark: u32) -> usize
+    requires { ⌜ at + 8 ≤ length (now out) ⌝ }
+    ensures { λ r. ⌜ Added (markDigits mark) 8 (now (out .entry)) at r (now (out .exit)) ⌝ }
+{
+    add_hex(out, at, mark as u64, 8)
 }

@@ -1,4 +1,5 @@
 -- `keeping::keep` meets its contract: the words are there, since there are eight, and the value can be read from its own. Assumes nothing.
+use Prim.Native.Nat.{ℕ}
 use mathlib.Core.Path.{sym, ap, _∙_}
 use borrow.Author.Needs.{needs}
 use Rattle.keeping.specs.Kept.{valueIn, written}
@@ -11,7 +12,7 @@ returns c =
     let worded = word .word-of .ensures in
     let a = word .before .args in
     record {
-      words = c .write .ensures ∙ ap (written (a .words .now) (a .count)) (worded .is);
+      words = c .write .ensures ∙ ap (λ (word : ℕ). written (a .words .now) (a .count) word (a .mark)) (worded .is);
       there = search needs;
       small = search needs;
       back = ap valueIn (sym (worded .is)) ∙ worded .back;

@@ -5,13 +5,13 @@ use Rattle.printing.proofs.put_closing.Statement.{statement}
 use Rattle.printing.proofs.put_closing.Tie as tie
 
 returns : tie.Need-returns
-returns c s same =
+returns c s count mark =
     let made = c .before .before .before .before .before in
     let state = made .before .before .before .before in
     let cut = state .before .before .before .before in
     put-then (cut .put-cut .ensures)
     (put-then (state .put-state .ensures)
-    (put-line (made .end-line .ensures .0 s same) (c .before .before .put .ensures)))
+    (put-line (made .end-line .ensures .0 s count mark) (c .before .before .put .ensures)))
 
 pub put-closing-spec : {M : Type 1} → statement M
 put-closing-spec =

@@ -11,7 +11,7 @@ returns c =
     let asked = closed .before in
     let session = asked .before .before in
     let start = session .before .before .before .before .before in
-    rw (← asked .is-cut .ensures) (closed .put-closing .ensures (meant (start .args .end .feed .session)) refl)
+    rw (← asked .is-cut .ensures) (closed .put-closing .ensures (meant (start .args .end .feed .session)) refl refl)
 
 pub put-end-spec : {M : Type 1} → statement M
 put-end-spec = tie.close (tie.spec (λ c κs. search needs) (λ c κs. search needs) (λ c. search needs) returns)

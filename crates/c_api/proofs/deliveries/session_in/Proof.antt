@@ -11,13 +11,20 @@ use Rattle.c_api.proofs.deliveries.session_in.Tie as tie
 
 returns : tie.Need-returns
 returns c =
-    let value = c .before in
+    let value = c .before .before in
     let count = value .before in
     let w = count .before .before .before .args .words .now in
-    let session : ℕ → Option ℕ → Book.Session = λ k v. record { n = getD w 0 0; number = getD w 1 0; count = k; value = v } in
+    let session : ℕ → Option ℕ → Book.Session = λ k v. record { n = getD w 0 0; number = getD w 1 0; count = k; value = v; mark = getD w 4 0 } in
     ap meant (c .resume .ensures) ∙ ap₂ session (count .count-in .ensures) (value .value-in .ensures)
 
 pub session-in-spec : {M : Type 1} → statement M
 session-in-spec =
     tie.close
-    (tie.spec (λ c. search needs) (λ c. search needs) (λ c κs. search needs) (λ c κs. search needs) (λ c κs. search needs) returns)
+    (tie.spec
+    (λ c. search needs)
+    (λ c. search needs)
+    (λ c κs. search needs)
+    (λ c κs. search needs)
+    (λ c. search needs)
+    (λ c κs. search needs)
+    returns)

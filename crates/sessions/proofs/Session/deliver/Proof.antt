@@ -1,9 +1,12 @@
 -- `sessions::Session::deliver` meets its contract: by what was read, and by where the record stands. Assumes nothing.
 use mathlib.Core.Path.{refl, sym, ap, _∙_}
+use native.Mathlib.Omega.{arith}
 use borrow.Author.Needs.{needs}
 use Rattle.book.proofs.Gives.{gives-is, denied-is}
 use Rattle.book.specs.Records.{readRecord, readSays}
+use Rattle.records.proofs.Taken.{taken-written}
 use Rattle.standing.specs.Stands.{stands}
+use Rattle.wire.specs.Bytes.{Bytes}
 use Rattle.sessions.specs.Deliveries.{meant}
 use Rattle.sessions.proofs.Steps.{unread, answered, goes, by-is, ran}
 use Rattle.sessions.proofs.Session.deliver.Statement.{statement}
@@ -24,14 +27,17 @@ returns-2 c =
     let stood = told .before .before in
     let known = stood .before .before in
     let read = known .before .before in
-    let a = read .before .before .before .before .args in
+    let lent = read .before .before .before in
+    let a = lent .before .args in
     let it = known .it .given .0 .0 in
     let found = gives-is 8 (readRecord (a .bytes .now)) (sym (ap readSays (known .it .given .1)) ∙ read .read-record .ensures) in
+    let within : Bytes (a .bytes .now) = λ i. omega (arith, lent .shared-slice-known .given i) in
     let next = sym (ap stands (told .next .given .1)) ∙ stood .stand .ensures .is (meant (a .self)) refl refl refl in
     let raised = stood .stand .ensures .next _ (told .next .given .1) in
     search
     (by-is (goes (meant (a .self)) _ (a .bytes .now) it found next)
-    (ran (a .self) _ (c .told .ensures) it (acted .run .ensures) raised (c .before .ran .ensures)))
+    (ran (a .self) _ (c .told .ensures) (a .bytes .now) it (acted .run .ensures) raised
+    (taken-written _ _ (a .bytes .now) it within found) (c .before .ran .ensures)))
 
 returns-3 : tie.Need-returns-3
 returns-3 c =

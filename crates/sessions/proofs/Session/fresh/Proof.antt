@@ -1,4 +1,4 @@
--- `sessions::Session::fresh` is the book's fresh session: nothing taken, and no value. Assumes nothing.
+-- `sessions::Session::fresh` is the book's fresh session: nothing taken, no value, and mark 0. Assumes nothing.
 use mathlib.Core.Path.{ap}
 use borrow.Author.Needs.{needs}
 use Rattle.sessions.specs.Deliveries.{meant}

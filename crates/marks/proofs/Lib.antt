@@ -1,0 +1,2 @@
+-- Steps: the mark over what is left, from one byte to the next.
+pub mod Steps
