@@ -153,11 +153,19 @@ def with_value(word, value):
     return word if value is None else '%s VALUE %d' % (word, value)
 
 
+def marked(mark, record):
+    """The mark behind these bytes: each turns it left by 5, in 32 bits, and is added; a carry out of 32 bits is dropped."""
+    for byte in record:
+        turned = (mark << 5) % (1 << 32) + (mark >> 27)
+        mark = (turned + byte) % (1 << 32)
+    return mark
+
+
 class Bench:
-    """A session and its state; kept is the value of the last record taken, or None."""
+    """A session and its state; kept is the value of the last record taken, or None, and mark runs over the bytes of all that were taken."""
 
     def __init__(self, n, session):
-        self.n, self.session, self.count, self.kept = n, session, 0, None
+        self.n, self.session, self.count, self.kept, self.mark = n, session, 0, None, 0
         self.re = [1.0] + [0.0] * ((1 << n) - 1)
         self.im = [0.0] * (1 << n)
 
@@ -227,7 +235,7 @@ class Bench:
         refusal, value = self.act(code, target, mask, given)
         if refusal:
             return 'REFUSED %d' % refusal
-        self.count, self.kept = self.count + 1, value
+        self.count, self.kept, self.mark = self.count + 1, value, marked(self.mark, record)
         return with_value('TAKEN', value)
 
 
@@ -317,7 +325,7 @@ def run(data, write_out):
         at, index = at + 3 + size, index + 1
     for i in range(1 << bench.n):
         write_out('A %d %016x %016x\n' % (i, bits(bench.re[i]), bits(bench.im[i])))
-    write_out('END %d\n' % bench.count)
+    write_out('END %d MARK %08x\n' % (bench.count, bench.mark))
 
 
 # ---- inputs
@@ -564,6 +572,24 @@ def make_repeated_flips(seed):
     return m.data
 
 
+def make_carries(seed):
+    """P's numbers, found by a search, leave the mark ffffffff; then the first byte of RY's record drops a carry, and so does its last one."""
+    m = Maker(1, 7, seed)
+    m.next(5, 0, 0, (0.75, of_bits(0x3FDF7C060B121514)))
+    assert m.bench.mark == 0xFFFFFFFF
+    m.next(7, 0, 0, (0.5, of_bits(0x3FEFFB1E0B1205FF)))
+    assert m.bench.mark == 0xED
+    return m.data
+
+
+def make_none_taken(seed):
+    """Refusals 3 to 11 while no record was taken, and one that would be taken, but is cut."""
+    good = write(7, 0, 2, 0)
+    refused = (write(7, 0, 2, 2), write(7, 0, 2, 0, 1), write(7, 0, 4, 0, 2), write(7, 0, 5, 0, 0, (NAN, 0.0)), write(7, 0, 11, 0, 0, (1, 0)),
+               good[:-1], good + bytes(95 - len(good)), write(8, 0, 2, 0), write(7, 1, 2, 0), write(7, FULL, 2, 0))
+    return header(2, 7) + b''.join(map(frame, refused)) + frame(good)[:-1]
+
+
 def make_eleven(seed):
     m = Maker(11, 11, seed)
     m.next(1, 10)
@@ -640,6 +666,8 @@ MAKE = {
     'refusals': make_refusals,
     'repeats': make_repeats,
     'repeated_flips': make_repeated_flips,
+    'carries': make_carries,
+    'none_taken': make_none_taken,
     'eleven': make_eleven,
     'many': make_many,
     'deliveries': make_deliveries,
