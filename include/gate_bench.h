@@ -56,13 +56,24 @@ enum gate_bench_answer {
 
 /* A session is eight words that the caller keeps: always 32 bytes, in later archives too. They may be saved with the state's
  * buffers, and go on with them later. Any eight words are a session: of count the low 16 bits are looked at, of value - 1 the
- * low 8. A call that takes no record leaves all eight as they were. */
+ * low 8, and any word is a mark. A call that takes no record leaves all eight as they were.
+ *
+ * The mark is for comparing two benches without reading their logs. It starts at 0. For each byte of each record that is taken
+ * it is turned left by 5, in 32 bits, and the byte is added, dropping any carry out of 32 bits: bytes 01 02 give 34, which is 22
+ * in hex. The bytes are the record's, with its session and number, and not the frame's tag and length. Repeats and refusals do
+ * not move it.
+ * Different marks show that the lists of records taken differ. Equal marks prove nothing: as record 0 of session 7, X on qubit 0
+ * with control 5 (mask 00000020) and X on qubit 0 with control 8 (mask 00000100) both leave 55900256, since 01 turned left by 5
+ * is 20; with the same records behind each, the two lists have one mark.
+ * In earlier headers this word is later[0]. A caller compiled with one goes on, if it began its words with gate_bench_start or
+ * with 0 there; a session saved from an earlier archive has a mark over what it took since. */
 struct gate_bench_session {
     uint32_t n;        /* qubits; never changes */
     uint32_t number;   /* the session's number; never changes */
     uint32_t count;    /* how many records were taken */
     uint32_t value;    /* of the last record taken: 0 for none, v + 1 for a value v */
-    uint32_t later[4]; /* for later archives: 0 at the start; no call of this one looks at them */
+    uint32_t mark;     /* over the bytes of all records taken */
+    uint32_t later[3]; /* for later archives: 0 at the start; no call of this one looks at them */
 };
 
 /* If this does not compile, the struct has not 32 bytes. */
@@ -78,8 +89,9 @@ static inline int gate_bench_session_value(const struct gate_bench_session *sess
 uint32_t gate_bench_start(struct gate_bench_session *session, uint32_t n, uint32_t number);
 
 /* One delivery: the bytes are read as a record and, if its number is the count, run on the state; the count is then one higher,
- * and the value is the record's. A lower number answers AGAIN: count - 1 tells the value, if there is one, whatever else the
- * bytes say; older ones tell none. A higher number answers 10. Refusals in the order 1, 2, 8, 9, 11, (AGAIN), 10, 3 to 7. */
+ * the value is the record's, and the mark has run over its bytes. A lower number answers AGAIN: count - 1 tells the value, if
+ * there is one, whatever else the bytes say; older ones tell none. A higher number answers 10. Refusals in the order 1, 2, 8, 9,
+ * 11, (AGAIN), 10, 3 to 7. */
 uint32_t gate_bench_deliver(struct gate_bench_session *session, const uint8_t *bytes, size_t bytes_len, double *reals,
                             size_t reals_len, double *imags, size_t imags_len);
 
