@@ -32,6 +32,9 @@
 //!     let mut later = Session::from_words(saved)?;
 //!     assert_eq!(later.deliver(measurement, &mut reals, &mut imags), Reply::Again(Some(1)));
 //!
+//!     // The mark runs over the bytes of what was taken: different marks show that two benches took different records, equal marks prove nothing.
+//!     assert_eq!(format!("{:08x}", later.mark()), "58887c69");
+//!
 //!     let refused = Session::start(25, 7).unwrap_err();
 //!     assert_eq!(refused.to_string(), "1 SIZE: n is out of range");
 //!     Ok(())

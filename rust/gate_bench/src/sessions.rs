@@ -2,7 +2,8 @@
 use crate::answers::{refusal, Refusal, Reply};
 use crate::ffi;
 
-/// n qubits, the session's number, the count of records taken, and the value of the last of them. The state stands in the caller's buffers.
+/// n qubits, the session's number, the count of records taken, the value of the last of them, and the mark over their bytes. The state stands in
+/// the caller's buffers.
 ///
 /// Its eight words are all of it: kept beside the buffers they are the session again, in this process or a later one.
 #[derive(Debug, PartialEq, Eq)]
@@ -26,7 +27,7 @@ impl Session {
         Ok(Session { words })
     }
 
-    /// n, the number, the count, 0 for no value or 1 more than the value, and four that later versions use.
+    /// n, the number, the count, 0 for no value or 1 more than the value, the mark, and three that later versions use.
     pub fn words(&self) -> [u32; 8] {
         self.words
     }
@@ -57,6 +58,17 @@ impl Session {
     /// The value of the last record taken, which `Reply::Again` tells for it: a measurement's outcome, or whether a bit flip ran.
     pub fn value(&self) -> Option<u8> {
         self.words[3].checked_sub(1).map(|value| value as u8)
+    }
+
+    /// The mark, by which two benches are compared without reading their logs. It starts at 0. For each byte of each record that is taken it is
+    /// turned left by 5, and the byte is added, dropping any carry out of 32 bits: bytes 01 02 give 34, which is 22 in hex. The bytes are the
+    /// record's, with its session and number, and not the frame's tag and length. Repeats and refusals do not move it.
+    ///
+    /// Different marks show that the lists of records taken differ. Equal marks prove nothing: as record 0 of session 7, X on qubit 0 with control 5
+    /// (mask 00000020) and X on qubit 0 with control 8 (mask 00000100) both leave 55900256, since 01 turned left by 5 is 20; with the same records
+    /// behind each, the two lists have one mark. A session saved from an archive that had no marks has one over what it took since.
+    pub fn mark(&self) -> u32 {
+        self.words[4]
     }
 }
 

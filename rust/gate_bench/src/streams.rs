@@ -26,10 +26,10 @@ const WAITING: u32 = 1024;
 ///     let mut replies = Vec::new();
 ///     for mut piece in sent.chunks(7) {
 ///         while let Some(reply) = stream.take(&mut piece, &mut reals, &mut imags) {
-///             replies.push((reply, stream.session().count()));
+///             replies.push((reply, stream.session().count(), stream.session().mark()));
 ///         }
 ///     }
-///     assert_eq!(replies, [(Reply::Taken, 1), (Reply::Again(None), 1)]);
+///     assert_eq!(replies, [(Reply::Taken, 1, 0x55900236), (Reply::Again(None), 1, 0x55900236)]);
 ///     assert_eq!((reals, stream.is_cut()), ([0.0, 1.0], false));
 ///     Ok(())
 /// }
@@ -66,6 +66,7 @@ impl Stream {
         self.kept != 0
     }
 
+    /// The session as it stands behind the frames that are complete: its count, its value, its mark.
     pub fn session(&self) -> &Session {
         &self.session
     }

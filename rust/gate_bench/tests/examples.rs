@@ -350,26 +350,29 @@ fn sessions_go_on_from_their_words() {
     assert_eq!(bench.deliver(0, X), Reply::Taken);
     assert_eq!(bench.deliver(1, measure(1, 0)), Reply::Value(1));
     let saved = bench.session.words();
-    assert_eq!(saved[..4], [1, 7, 2, 2]);
+    let measured = bytes(&Record { session: 7, number: 1, gate: measure(1, 0) });
+    let mark = marked(marked(0, &x_numbered(0)), &measured);
+    assert_eq!(saved, [1, 7, 2, 2, mark, 0, 0, 0]);
     let mut later = Bench { session: Session::from_words(saved).expect("one qubit"), ..bench };
     assert_eq!(later.session, bench.session);
     let Bench { session, .. } = &later;
-    assert_eq!((session.n(), session.number(), session.count(), session.value()), (1, 7, 2, Some(1)));
+    assert_eq!((session.n(), session.number(), session.count(), session.value(), session.mark()), (1, 7, 2, Some(1), mark));
     assert_eq!(later.deliver(0, X), Reply::Again(None));
     assert_eq!(later.deliver(1, measure(1, 0)), Reply::Again(Some(1)));
     assert_eq!(later.deliver(2, X), Reply::Taken);
     assert_eq!((later.session.count(), later.session.value(), bits(&later.reals)), (3, None, bits(&[1.0, 0.0])));
+    assert_eq!(later.session.mark(), marked(mark, &x_numbered(2)));
     for n in [0, 25, u32::MAX] {
         assert_eq!(Session::from_words([n, 7, 3, 0, 0, 0, 0, 0]), Err(Refusal::Size));
     }
 }
 
-/// Any eight words are a session: of the third the low 16 bits are the count, of the fourth less 1 the low 8 are the value.
+/// Any eight words are a session: of the third the low 16 bits are the count, of the fourth less 1 the low 8 are the value, and the fifth is a mark.
 #[test]
 fn words_of_any_kind() {
     let words = [1, 7, 65536 + 5, 300, 11, 12, 13, 14];
     let mut bench = Bench::of(Session::from_words(words).expect("one qubit"));
-    assert_eq!((bench.session.count(), bench.session.value()), (5, Some(43)));
+    assert_eq!((bench.session.count(), bench.session.value(), bench.session.mark()), (5, Some(43), 11));
     let left = bench.all();
     assert_eq!(left.0, words);
     let early = Reply::Refused(Refusal::Early);
@@ -380,13 +383,118 @@ fn words_of_any_kind() {
     assert_eq!(bench.deliver(5, Gate::X(1, 0)), Reply::Refused(Refusal::Qubit));
     assert_eq!(bench.all(), left);
     assert_eq!(bench.deliver(5, X), Reply::Taken);
-    assert_eq!(bench.session.words()[..4], [1, 7, 6, 0]);
+    assert_eq!(bench.session.words(), [1, 7, 6, 0, marked(11, &x_numbered(5)), 12, 13, 14]);
 
     // With a count of 0 nothing is a repeat, whatever value is kept.
     let mut bench = Bench::of(Session::from_words([1, 7, 65536, 2, 0, 0, 0, 0]).expect("one qubit"));
     assert_eq!(bench.deliver(65534, X), early);
     assert_eq!(bench.deliver(0, X), Reply::Taken);
     assert_eq!(bench.deliver(0, X), Reply::Again(None));
+}
+
+/// Request 06's mark, worked out here.
+fn marked(mark: u32, bytes: &[u8]) -> u32 {
+    bytes.iter().fold(mark, |mark, byte| mark.rotate_left(5).wrapping_add(u32::from(*byte)))
+}
+
+#[test]
+fn the_mark_of_the_tests() {
+    assert_eq!(marked(0, &[1, 2]), 34);
+    assert_eq!(marked(0, &x_numbered(0)), 0x55900236);
+}
+
+/// A session of three qubits whose number is 7: of what was taken the mark is held to the one worked out here, after each delivery.
+struct Marked {
+    session: Session,
+    state: [[f64; 8]; 2],
+    mark: u32,
+}
+
+impl Marked {
+    fn start() -> Marked {
+        let session = Session::start(3, 7).expect("three qubits");
+        assert_eq!(session.mark(), 0);
+        Marked { session, state: [[1.0, 0.0, 0.0, 0.0, 0.0, 0.0, 0.0, 0.0], [0.0; 8]], mark: 0 }
+    }
+
+    fn deliver(&mut self, bytes: &[u8]) -> Reply {
+        let [reals, imags] = &mut self.state;
+        let reply = self.session.deliver(bytes, reals, imags);
+        if let Reply::Taken | Reply::Value(_) = reply {
+            self.mark = marked(self.mark, bytes);
+        }
+        assert_eq!(self.session.mark(), self.mark, "{reply:?} to {bytes:02x?}");
+        reply
+    }
+}
+
+/// Request 06: before each record refusals of every kind, behind it repeats of all so far. Qubit 2 is nobody's and stays 0, so outcome 1 has no chance there.
+#[test]
+fn the_mark_runs_over_what_was_taken() {
+    let (angle, wrong) = (Angle { cosine: 0.6, sine: -0.8 }, Angle { cosine: f64::NAN, sine: 1.0 });
+    let angles = Angles { ct: 0.8, st: 0.6, cl: 0.96, sl: 0.28, cpl: -0.6, spl: 0.8, cp: 0.28, sp: -0.96 };
+    let forced = Forced { outcome: 0, reset: 0 };
+    let (p, rx, ry, rz) = (Gate::P(1, 1, angle), Gate::Rx(0, 2, angle), Gate::Ry(1, 0, angle), Gate::Rz(0, 0, angle));
+    let (flip, stays) = (Gate::BitFlip(0, Noise { prob: 0.5, draw: 0.25 }), Gate::BitFlip(1, Noise { prob: 0.5, draw: 0.75 }));
+    let gates = [Gate::H(0, 0), Gate::X(1, 1), Gate::Y(0, 2), Gate::Z(1, 0), p, rx, ry, rz, Gate::U(1, 1, angles), Gate::Swap(0, 1), flip, stays];
+    let mut bench = Marked::start();
+    let mut sent = Vec::new();
+    for (number, gate) in (0..).zip(gates.into_iter().chain([Gate::Measure(1, forced), Gate::H(1, 0)])) {
+        let record = |session, number, gate| bytes(&Record { session, number, gate });
+        let (own, of) = (record(7, number, gate), |gate| record(7, number, gate));
+        for (refusal, refused) in [
+            (Refusal::Qubit, of(Gate::X(3, 0))),
+            (Refusal::Same, of(Gate::X(0, 1))),
+            (Refusal::Form, of(Gate::Z(0, 2))),
+            (Refusal::Number, of(Gate::P(0, 0, wrong))),
+            (Refusal::Chance, of(Gate::Measure(2, Forced { outcome: 1, reset: 0 }))),
+            (Refusal::Record, own[1..].to_vec()),
+            (Refusal::Record, vec![9; 300]),
+            (Refusal::Session, record(8, number, gate)),
+            (Refusal::Early, record(7, number + 1, gate)),
+            (Refusal::Full, record(7, 65535, gate)),
+        ] {
+            assert_eq!(bench.deliver(&refused), Reply::Refused(refusal));
+        }
+        assert_eq!(bench.session.deliver(&own, &mut [], &mut []), Reply::Refused(Refusal::Length));
+        assert!(matches!(bench.deliver(&own), Reply::Taken | Reply::Value(_)), "{gate:?}");
+        sent.push(own);
+        for repeat in &sent {
+            assert!(matches!(bench.deliver(repeat), Reply::Again(_)));
+        }
+    }
+    assert_eq!((bench.session.count(), bench.mark), (14, marked(0, &sent.concat())));
+}
+
+/// Any word is a mark to go on from; behind the last of these the record's first byte makes a carry out of 32 bits, which is dropped.
+#[test]
+fn any_word_is_a_mark() {
+    for mark in [0, 1, 34, 0x07FFFFFF, 0x08000000, 0x80000000, u32::MAX] {
+        let mut bench = Bench::of(Session::from_words([1, 7, 0, 0, mark, 0, 0, 0]).expect("one qubit"));
+        assert_eq!(bench.session.mark(), mark);
+        assert_eq!(bench.deliver(0, X), Reply::Taken);
+        assert_eq!(bench.session.words(), [1, 7, 1, 0, marked(mark, &x_numbered(0)), 0, 0, 0]);
+    }
+    assert_eq!(marked(u32::MAX, &x_numbered(0)[..1]), 0);
+}
+
+/// Equal marks prove nothing: X on qubit 0 with control 5, and with control 8, alone and among other records; behind X on qubit 5 the states differ.
+#[test]
+fn two_lists_with_one_mark() {
+    let left = |gates: &[Gate]| {
+        let mut session = Session::start(9, 7).expect("nine qubits");
+        let (mut reals, mut imags) = ([0.0; 512], [0.0; 512]);
+        reals[0] = 1.0;
+        for (number, gate) in (0..).zip(gates) {
+            assert_eq!(session.deliver(&bytes(&Record { session: 7, number, gate: *gate }), &mut reals, &mut imags), Reply::Taken);
+        }
+        (session.mark(), bits(&reals))
+    };
+    let (control_5, control_8) = (Gate::X(0, 0x20), Gate::X(0, 0x100));
+    assert_eq!((left(&[control_5]).0, left(&[control_8]).0), (0x55900256, 0x55900256));
+    let (one, other) = (left(&[Gate::X(5, 0), control_5, Gate::H(1, 0)]), left(&[Gate::X(5, 0), control_8, Gate::H(1, 0)]));
+    assert_eq!(one.0, other.0);
+    assert_ne!(one.1, other.1);
 }
 
 #[test]
@@ -499,15 +607,18 @@ fn frame(contents: &[u8]) -> Vec<u8> {
     [&[0x20][..], &(contents.len() as u16).to_be_bytes(), contents].concat()
 }
 
-/// What a stream gives in pieces of these sizes: replies with their counts, the state, and what is left at the end.
-fn fed(sent: &[u8], pieces: &[usize]) -> (Vec<(Reply, u16)>, [u64; 2], bool, bool) {
+/// A reply, and the session's count and mark behind it.
+type Told = (Reply, u16, u32);
+
+/// What a stream gives in pieces of these sizes: what was told, the state, and what is left at the end.
+fn fed(sent: &[u8], pieces: &[usize]) -> (Vec<Told>, [u64; 2], bool, bool) {
     let mut stream = Stream::new(Session::start(1, 7).expect("one qubit"));
     let (mut reals, mut imags) = ([1.0, 0.0], [0.0; 2]);
     let (mut replies, mut rest) = (Vec::new(), sent);
     for size in pieces.iter().cycle() {
         let (mut piece, behind) = rest.split_at(rest.len().min(*size));
         while let Some(reply) = stream.take(&mut piece, &mut reals, &mut imags) {
-            replies.push((reply, stream.session().count()));
+            replies.push((reply, stream.session().count(), stream.session().mark()));
         }
         assert!(piece.is_empty());
         rest = behind;
@@ -520,12 +631,25 @@ fn fed(sent: &[u8], pieces: &[usize]) -> (Vec<(Reply, u16)>, [u64; 2], bool, boo
 
 #[test]
 fn a_stream_cut_anywhere() {
-    let measured = frame(&bytes(&Record { session: 7, number: 1, gate: measure(1, 0) }));
+    let measurement = bytes(&Record { session: 7, number: 1, gate: measure(1, 0) });
+    let one = marked(0, &x_numbered(0));
+    let two = marked(one, &measurement);
+    let three = marked(two, &x_numbered(2));
+    let measured = frame(&measurement);
     let sent = [frame(&x_numbered(0)), frame(&[]), frame(&x_numbered(0)), measured.clone(), frame(&[9; 300]), measured.clone()].concat();
     let sent = [sent, frame(&x_numbered(2)), measured, vec![0x20, 0]].concat();
     let whole = fed(&sent, &[sent.len()]);
     let (refused, again) = (Reply::Refused(Refusal::Record), Reply::Again(None));
-    let replies = [(Reply::Taken, 1), (refused, 1), (again, 1), (Reply::Value(1), 2), (refused, 2), (Reply::Again(Some(1)), 2), (Reply::Taken, 3), (again, 3)];
+    let replies = [
+        (Reply::Taken, 1, one),
+        (refused, 1, one),
+        (again, 1, one),
+        (Reply::Value(1), 2, two),
+        (refused, 2, two),
+        (Reply::Again(Some(1)), 2, two),
+        (Reply::Taken, 3, three),
+        (again, 3, three),
+    ];
     assert_eq!(whole.0, replies);
     assert_eq!((whole.1, whole.2, whole.3), ([1f64.to_bits(), 0], true, false));
     for size in 1..sent.len() {
@@ -538,7 +662,7 @@ fn a_stream_cut_anywhere() {
 fn behind_a_wrong_tag_nothing_changes() {
     let sent = [frame(&x_numbered(0)), vec![b'\n'], frame(&x_numbered(1))].concat();
     let whole = fed(&sent, &[sent.len()]);
-    assert_eq!(whole, (vec![(Reply::Taken, 1)], [0, 1f64.to_bits()], true, true));
+    assert_eq!(whole, (vec![(Reply::Taken, 1, marked(0, &x_numbered(0)))], [0, 1f64.to_bits()], true, true));
     for size in 1..sent.len() {
         assert_eq!(fed(&sent, &[size]), whole, "pieces of {size}");
     }
