@@ -44,7 +44,7 @@ static uint32_t deliver_all(void) {
     gate_bench_session_start(&session, QUBITS, 7);
     for (uint32_t i = 0; i < RECORDS; i++)
         sum += gate_bench_session_deliver(&session, stream + starts[i] + 3, starts[i + 1] - starts[i] - 3, reals, imags, PLACES);
-    return sum + session.count;
+    return sum + session.count + session.mark;
 }
 
 static uint32_t feed_all(size_t size, size_t piece) {
@@ -60,7 +60,7 @@ static uint32_t feed_all(size_t size, size_t piece) {
             from += used;
         }
     }
-    return sum + feed.session.count;
+    return sum + feed.session.count + feed.session.mark;
 }
 
 static double now(void) {
@@ -98,6 +98,6 @@ static int measure(const char *what, int mixed) {
 int main(void) {
     int same = measure("X alone", 0);
     same &= measure("X, H, RX, U, P", 1);
-    puts(same ? "the same answers, counts and buffers every way" : "THE WAYS DIFFER");
+    puts(same ? "the same answers, counts, marks and buffers every way" : "THE WAYS DIFFER");
     return same ? 0 : 1;
 }

@@ -1,6 +1,7 @@
 /* Three qubits over a bad line, from C. Three records make a GHZ state; they arrive late, early, repeated and with junk between.
  * Each is run once, in order, and the state is bit for bit what the records give when nothing goes wrong. A fourth measures; its
- * answer is lost, and its repeat tells the outcome again. */
+ * answer is lost, and its repeat tells the outcome again. The mark runs over the four, once each: a bench with another mark took other
+ * records. */
 #include <inttypes.h>
 #include <stdio.h>
 #include <string.h>
@@ -93,6 +94,7 @@ int main(void) {
     arrive(&bad, "record 3 again, the answer lost", &m);
     arrive(&bad, "record 2 once more", &x2);
     printf("the value that the session keeps: %d\n", gate_bench_session_value(&bad.session));
+    printf("the mark over the four records: %08" PRIx32 "\n", bad.session.mark);
 
     struct state good = start();
     deliver(&good, &h);

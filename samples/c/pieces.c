@@ -79,6 +79,6 @@ int main(int argc, char **argv) {
     if (gate_bench_stream_is_cut(&stream))
         puts("CUT");
     print_state(places);
-    printf("END %u\n", (unsigned)stream.session.count);
+    printf("END %u MARK %08" PRIx32 "\n", (unsigned)stream.session.count, stream.session.mark);
     return 0;
 }

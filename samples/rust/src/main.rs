@@ -1,6 +1,7 @@
 //! Three qubits over a bad line, from Rust. Three records make a GHZ state; they arrive late, early, repeated and with junk
 //! between. Each is run once, in order, and the state is bit for bit what the records give when nothing goes wrong. A fourth
-//! measures; its answer is lost, and its repeat tells the outcome again.
+//! measures; its answer is lost, and its repeat tells the outcome again. The mark runs over the four, once each: a bench with
+//! another mark took other records.
 use gate_bench::{environment_is_default, write_record, Forced, Gate, Record, Reply, Session, RECORD_MOST};
 use std::process::ExitCode;
 
@@ -77,6 +78,7 @@ fn main() -> ExitCode {
     bad.arrive("record 3 again, the answer lost", &m);
     bad.arrive("record 2 once more", &x2);
     println!("the value that the session keeps: {}", bad.session.value().expect("the last record measured"));
+    println!("the mark over the four records: {:08x}", bad.session.mark());
 
     let mut good = State::start();
     for record in [&h, &x1, &x2, &m] {
