@@ -24,6 +24,8 @@ struct Row {
 pub struct Tally {
     rows: BTreeMap<String, Row>,
     ones: u64,
+    /// Over the bytes of every record that was delivered: each session goes on from the one before.
+    mark: u32,
     shown: u32,
 }
 
@@ -73,12 +75,14 @@ impl Tally {
         self.ones += u64::from(forced(call) == Some(1));
         let bytes = ours::record(call);
         let (mut re2, mut im2) = (reals.to_vec(), imags.to_vec());
-        let delivered = ours::deliver(call, &bytes, &mut re2, &mut im2);
+        let (delivered, words) = ours::deliver_marked(call, self.mark, &bytes, &mut re2, &mut im2);
+        self.mark = marked(self.mark, &bytes);
         let agree = same(&re, &theirs.reals) && same(&im, &theirs.imags);
         let again = same(&re2, &theirs.reals) && same(&im2, &theirs.imags);
-        if !agree || !again || answer != expected(call) || delivered != ours::as_reply(answer) {
+        let kept = words == expected_words(call, self.mark);
+        if !agree || !again || !kept || answer != expected(call) || delivered != ours::as_reply(answer) {
             let numbers = call.gate.numbers();
-            self.different(name, &format!("{call} {numbers:?} answer {answer:?} delivered {delivered:?} reals {reals:?} imags {imags:?}"));
+            self.different(name, &format!("{call} {numbers:?} answer {answer:?} delivered {delivered:?} words {words:x?} reals {reals:?} imags {imags:?}"));
         }
         self.slow(call, reals, imags, &(theirs.reals, theirs.imags));
     }
@@ -114,6 +118,20 @@ pub fn expected(call: &Call) -> Answer {
         Gate::BitFlip(prob, k) => Answer::Value(u8::from(k as f64 / 2f64.powi(53) <= prob)),
         _ => Answer::Taken,
     }
+}
+
+/// Request 06's mark, worked out here: each byte turns it left by 5 and is added, and a carry out of 32 bits is dropped.
+fn marked(mark: u32, bytes: &[u8]) -> u32 {
+    bytes.iter().fold(mark, |mark, byte| mark.rotate_left(5).wrapping_add(u32::from(*byte)))
+}
+
+/// The words of a session that has taken the call as its first record.
+fn expected_words(call: &Call, mark: u32) -> [u32; 8] {
+    let value = match expected(call) {
+        Answer::Value(v) => u32::from(v) + 1,
+        _ => 0,
+    };
+    [call.n, ours::NUMBER, 1, value, mark, 0, 0, 0]
 }
 
 pub fn forced(call: &Call) -> Option<u8> {
@@ -218,7 +236,7 @@ fn by_the_slow(row: &Row) -> String {
 /// Prints the table, and says whether nothing differed.
 pub fn run(seed: u64) -> bool {
     let mut random = Random(seed);
-    let mut tally = Tally { rows: BTreeMap::new(), ones: 0, shown: 0 };
+    let mut tally = Tally { rows: BTreeMap::new(), ones: 0, mark: 0, shown: 0 };
     small(&mut tally, &mut random);
     large(&mut tally, &mut random);
     all_matrices(&mut tally, &mut random);

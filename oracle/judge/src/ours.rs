@@ -5,7 +5,7 @@ use gate_bench as bench;
 use gate_bench::{slow, Angle, Angles, Answer, Forced, Noise, Record, Reply, Session};
 
 /// The session that a call is delivered to.
-const NUMBER: u32 = 7;
+pub const NUMBER: u32 = 7;
 
 fn angle(v: &[f64]) -> Angle {
     Angle { cosine: v[0], sine: v[1] }
@@ -97,6 +97,12 @@ pub fn record(call: &Call) -> Vec<u8> {
 pub fn deliver(call: &Call, bytes: &[u8], reals: &mut [f64], imags: &mut [f64]) -> Reply {
     let mut session = Session::start(call.n, NUMBER).expect("n is 1 to 24");
     session.deliver(bytes, reals, imags)
+}
+
+/// The same to a session that has a mark already, and the session's words behind it.
+pub fn deliver_marked(call: &Call, mark: u32, bytes: &[u8], reals: &mut [f64], imags: &mut [f64]) -> (Reply, [u32; 8]) {
+    let mut session = Session::from_words([call.n, NUMBER, 0, 0, mark, 0, 0, 0]).expect("n is 1 to 24");
+    (session.deliver(bytes, reals, imags), session.words())
 }
 
 /// What a delivery says where the kernel gives this answer.
