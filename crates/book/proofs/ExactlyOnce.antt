@@ -116,7 +116,7 @@ bytes-one-more [] r = append-nil (writeRecord r)
 bytes-one-more (x ∷ xs) r =
     ap (λ (l : List ℕ). writeRecord x ++ l) (bytes-one-more xs r) ∙ sym (append-assoc (writeRecord x) (flatMap writeRecord xs) (writeRecord r))
 
--- no record has no bytes
+-- before any record
 pub unmarked : 0 ≡ marked 0 (flatMap writeRecord [])
 unfolding marked flatMap
 unmarked = refl

@@ -1,4 +1,4 @@
--- The proofs of specs/RoundTrips. Taken: bytes that are read and taken write back as they were.
+-- The proofs of specs/RoundTrips.
 pub mod ThereAndBack
 pub mod BackAndThere
 pub mod Taken

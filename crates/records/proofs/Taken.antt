@@ -2,7 +2,6 @@
 use Prim.Native.Nat.{ℕ, zero, suc}
 use mathlib.Core.Bool.{Bool, true, false, not, _&&_}
 use mathlib.Core.List.{List, [], _∷_, _++_}
-use mathlib.Core.Option.{some}
 use mathlib.Core.Path.{_≡_, refl}
 use native.Mathlib.Omega.{arith}
 use borrow.Author.Tests.{not-false}
@@ -11,16 +10,15 @@ use lib.Ieee.{Float, nan, inf, fin, isNan}
 use lib.Ieee.Scale.{finite}
 use Rattle.book.proofs.Refusals.{clear, clear-start, sizes-numbered}
 use Rattle.book.specs.Answers.{_⇒_, first, Buffers, Call, unless, accepts}
-use Rattle.book.specs.Calls.{callOf, act}
+use Rattle.book.specs.Calls.{callOf}
 use Rattle.book.specs.Gates.{angleOf, anglesOf, noiseOf, allFinite, finiteTests}
 use Rattle.book.specs.Kernels.{sizeTests, seatTests}
-use Rattle.book.specs.Records.{partsOf, writeRecord, readRecord}
+use Rattle.book.specs.Records.{partsOf}
 use Rattle.book.specs.declared.Controls.{Controls}
 use Rattle.book.specs.declared.Gate.{Gate}
 use Rattle.book.specs.declared.Gate.the-variants.{H, X, Y, Z, P, Rx, Ry, Rz, U, Swap, Measure, BitFlip}
-use Rattle.book.specs.declared.Record.{Record}
-use Rattle.wire.specs.Bytes.{Bytes, Each, NotNan}
-use Rattle.records.specs.RoundTrips.{floatsOf}
+use Rattle.wire.specs.Bytes.{Each, NotNan}
+use Rattle.records.specs.RoundTrips.{floatsOf, TakenWritesBack}
 use Rattle.records.proofs.BackAndThere.{writes-back}
 
 -- ---- finite numbers
@@ -69,9 +67,8 @@ accepted-none : (k : ℕ) (b : Buffers) (c : Call) → accepts (unless k b c .sa
 accepted-none zero b c e = refl
 accepted-none (suc k) b c e = absurd (let z : _≡_ {A = ℕ} 0 1 = cc e in omega arith)
 
-pub taken-written : (n : ℕ) (b : Buffers) (bs : List ℕ) (r : Record) → Bytes bs → readRecord bs ≡ some r
-    → accepts (act n (r .gate) b .says) ≡ true → writeRecord r ≡ bs
-taken-written n b bs r h e a =
+pub taken-writes-back : TakenWritesBack
+taken-writes-back n b bs r h e a =
     let c = callOf n (r .gate) b in
     let none = accepted-none (first (sizeTests n b ++ c .tests)) b c a in
     writes-back bs r h e (own-passed n (r .gate) b (clear-start (sizeTests n b) (c .tests) (sizes-numbered n b) none .1))

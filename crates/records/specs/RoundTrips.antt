@@ -1,12 +1,14 @@
 -- Records written and read back, and bytes read and written back: the statements, which proofs/ shows. Definitions only. Assumes nothing.
 -- The logic has one NaN. So a record with a NaN reads back as written too; bytes with another NaN than 7FF8000000000000 do not write back.
 use Prim.Native.Nat.{ℕ, _≤_, _<_, _^_}
+use mathlib.Core.Bool.{true}
 use mathlib.Core.List.{List, []}
 use mathlib.Core.Option.{some}
 use mathlib.Core.Path.{_≡_}
 use lib.Ieee.{Float}
 use lib.ListN.{length}
-use Rattle.book.specs.Answers.{orDenied}
+use Rattle.book.specs.Answers.{orDenied, Buffers, accepts}
+use Rattle.book.specs.Calls.{act}
 use Rattle.book.specs.Gates.{angleOf, anglesOf, noiseOf}
 use Rattle.book.specs.Records.{partsOf, writeRecord, mostBytes, writtenSays, wroteOf, leftBy, readRecord, readSays}
 use Rattle.book.specs.declared.Angles.{Angles}
@@ -62,6 +64,12 @@ WritesBack = (bs : List ℕ) (r : Record) → Bytes bs → readRecord bs ≡ som
 -- each meaning has one spelling: bytes that are read as the same record are the same, where no NaN is among its numbers
 abbrev pub OneSpelling : Type 0
 OneSpelling = (bs cs : List ℕ) (r : Record) → Bytes bs → Bytes cs → readRecord bs ≡ some r → readRecord cs ≡ some r → NoNan r → bs ≡ cs
+
+-- bytes whose record is taken write back as they were: 6 refuses a NaN
+abbrev pub TakenWritesBack : Type 0
+TakenWritesBack =
+    (n : ℕ) (b : Buffers) (bs : List ℕ) (r : Record)
+    → Bytes bs → readRecord bs ≡ some r → accepts (act n (r .gate) b .says) ≡ true → writeRecord r ≡ bs
 
 -- ---- sizes
 

@@ -4,7 +4,7 @@ use native.Mathlib.Omega.{arith}
 use borrow.Author.Needs.{needs}
 use Rattle.book.proofs.Gives.{gives-is, denied-is}
 use Rattle.book.specs.Records.{readRecord, readSays}
-use Rattle.records.proofs.Taken.{taken-written}
+use Rattle.records.proofs.Taken.{taken-writes-back}
 use Rattle.standing.specs.Stands.{stands}
 use Rattle.wire.specs.Bytes.{Bytes}
 use Rattle.sessions.specs.Deliveries.{meant}
@@ -37,7 +37,7 @@ returns-2 c =
     search
     (by-is (goes (meant (a .self)) _ (a .bytes .now) it found next)
     (ran (a .self) _ (c .told .ensures) (a .bytes .now) it (acted .run .ensures) raised
-    (taken-written _ _ (a .bytes .now) it within found) (c .before .ran .ensures)))
+    (taken-writes-back _ _ (a .bytes .now) it within found) (c .before .ran .ensures)))
 
 returns-3 : tie.Need-returns-3
 returns-3 c =
