@@ -1,12 +1,13 @@
 -- A record that is taken has no NaN, which 6 refuses: so the bytes that it was read from are those that it is written as. Assumes nothing.
 use Prim.Native.Nat.{ℕ, zero, suc}
-use mathlib.Core.Bool.{Bool, true, false, not, _&&_}
+use mathlib.Core.Bool.{true}
 use mathlib.Core.List.{List, [], _∷_, _++_}
 use mathlib.Core.Path.{_≡_, refl}
 use native.Mathlib.Omega.{arith}
 use borrow.Author.Tests.{not-false}
-use lib.Dec.{leb}
+use lib.Dec.{T, leb}
 use lib.Ieee.{Float, nan, inf, fin, isNan}
+use lib.Ieee.Fits.{and-l, and-r}
 use lib.Ieee.Scale.{finite}
 use Rattle.book.proofs.Refusals.{clear, clear-start, sizes-numbered}
 use Rattle.book.specs.Answers.{_⇒_, first, Buffers, Call, unless, accepts}
@@ -23,23 +24,19 @@ use Rattle.records.proofs.BackAndThere.{writes-back}
 
 -- ---- finite numbers
 
-not-nan : (x : Float) → finite x ≡ true → NotNan x
+not-nan : (x : Float) → T (finite x) → NotNan x
 unfolding isNan
 not-nan (fin s m e) h = tt
 not-nan (inf s) h = tt
-not-nan nan h = absurd (let z : _≡_ {A = ℕ} 0 1 = cc h in omega arith)
+not-nan nan h = absurd h
 
-both : (x y : Bool) → (x && y) ≡ true → (x ≡ true) × (y ≡ true)
-both true y e = (refl, e)
-both false y e = absurd (let z : _≡_ {A = ℕ} 0 1 = cc e in omega arith)
-
-none-nan : (xs : List Float) → allFinite xs ≡ true → Each NotNan xs
-none-nan [] e = tt
-none-nan (x ∷ xs) e = let (h, more) = both (finite x) (allFinite xs) e in (not-nan x h, none-nan xs more)
+none-nan : (xs : List Float) → T (allFinite xs) → Each NotNan xs
+none-nan [] h = tt
+none-nan (x ∷ xs) h = (not-nan x (and-l (finite x) (allFinite xs) h), none-nan xs (and-r (finite x) (allFinite xs) h))
 
 -- where 6 does not apply
 passed : (xs : List Float) → first (finiteTests xs) ≡ 0 → Each NotNan xs
-passed xs e = none-nan xs (not-false (allFinite xs) (clear (finiteTests xs) tt e .0))
+passed xs e = let none = not-false (allFinite xs) (clear (finiteTests xs) tt e .0) in none-nan xs (rw none tt)
 
 -- ---- a gate's own tests
 
