@@ -1,5 +1,7 @@
 // F of two triples at once, side by side, and of four: so that the compiler makes one computation of two. A multiplier that many triples share is split once.
 // An inner room: its functions ask for upper parts that belong to the multipliers, and their callers are proved.
+#![tactic(auto)]
+
 ghost use Rattle.std.specs.Prelude.{◌≡◌};
 ghost use Rattle.book.specs.Gates.{F};
 ghost use Rattle.book.specs.State.{amplitude, pair};

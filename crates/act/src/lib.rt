@@ -1,4 +1,6 @@
 // What a gate does to a state of n qubits, by either engine. The kernel of each code has a line.
+#![tactic(auto)]
+
 ghost use Rattle.book.specs.Answers.{Does};
 ghost use Rattle.book.specs.Calls as Book;
 ghost use Rattle.book.specs.Lent.{before, after};

@@ -1,4 +1,6 @@
 // The rules of RX and RY on a pair of amplitudes, by value, operation for operation as 01 writes them; and U's matrix.
+#![tactic(auto)]
+
 ghost use Rattle.std.specs.Prelude.{◌≡◌};
 ghost use Rattle.book.specs.Gates.{rx_rule, ry_rule, u_matrix};
 

@@ -1,5 +1,7 @@
 // An answer as one number, laid out for all that is to come: the low byte is a refusal's number or a value, and what stands above it says which.
 // 0 taken, 1 to 255 a refusal, 256 AGAIN, 512 + v an AGAIN that tells the value v, 768 + v a value v.
+#![tactic(auto)]
+
 ghost use Rattle.std.specs.Prelude.{◌≡◌};
 ghost use Rattle.book.specs.Answers.{number_of, says, value_or_none, replies, accepts};
 ghost use Rattle.answers.specs.Told.{said_number, again_number, replied_number};

@@ -1,5 +1,7 @@
 // The program: reads a header and frames from its input, and writes the lines of document 01 to standard output. The input has any size and comes in
 // any pieces. Here it reads and writes; what it makes of what it read, and what it hands on to be written, is program's.
+#![tactic(auto)]
+
 ghost use Rattle.std.specs.Prelude.{◌≤◌, ◌<◌, length};
 ghost use Rattle.book.specs.Lent.{here};
 ghost use Rattle.program.specs.Program.{run_of};
@@ -15,7 +17,7 @@ use program::{OUT, PIECE, Running};
 use turns::{closing, take_turn};
 
 // How a run ended, for whoever started the program.
-#[derive(Drop)]
+#[derive(Clone, Copy)]
 pub enum Ended {
     Whole,
     Cut,
@@ -24,7 +26,7 @@ pub enum Ended {
 }
 
 // Behind the last piece, and whether standard output took all that was written.
-#[derive(Drop)]
+#[derive(Clone, Copy)]
 struct Behind {
     end: Running,
     open: bool,

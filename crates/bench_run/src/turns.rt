@@ -9,7 +9,7 @@ ghost use Rattle.bench_run.specs.Turns.{Writes, Closes};
 use program::{OUT, PIECE, Running};
 
 // Behind a piece: what is known, how many bytes were read, and how many are to be written.
-#[derive(Drop)]
+#[derive(Clone, Copy)]
 pub(crate) struct Turn {
     pub next: Running,
     pub got: usize,

@@ -1,5 +1,7 @@
 // The values that document 01 speaks of: amplitudes, gates, records, and the answers of the calls. A session's are in the crate sessions, with its methods.
 // Types, and the one place that makes controls: what they mean is in specs/, in 01's order.
+#![tactic(auto)]
+
 ghost use Rattle.std.specs.Prelude.{◌≡◌};
 ghost use Rattle.book.specs.State.{controlled};
 
@@ -13,27 +15,27 @@ pub const MOST_BYTES: usize = 94;
 pub const ANY: u32 = 32;
 
 // An amplitude is a pair of f64, real and imaginary.
-#[derive(Drop)]
+#[derive(Clone, Copy)]
 pub struct Amplitude {
     pub re: f64,
     pub im: f64,
 }
 
 // The amplitudes at the two places of a pair.
-#[derive(Drop)]
+#[derive(Clone, Copy)]
 pub struct Pair {
     pub s0: Amplitude,
     pub s1: Amplitude,
 }
 
 // A two-by-two matrix: four amplitudes, row by row.
-#[derive(Drop)]
+#[derive(Clone, Copy)]
 pub struct Matrix {
     pub entries: [Amplitude; 4],
 }
 
 // The controls of a gate: each qubit whose bit is set in ones has to be 1.
-#[derive(Drop)]
+#[derive(Clone, Copy)]
 pub struct Controls {
     pub ones: u32,
 }
@@ -47,14 +49,14 @@ impl Controls {
 }
 
 // Cosine and sine of an angle, or of the half angle for RX, RY and RZ.
-#[derive(Drop)]
+#[derive(Clone, Copy)]
 pub struct Angle {
     pub cosine: f64,
     pub sine: f64,
 }
 
 // The eight numbers of U, in 01's order.
-#[derive(Drop)]
+#[derive(Clone, Copy)]
 pub struct Angles {
     pub ct: f64,
     pub st: f64,
@@ -67,21 +69,21 @@ pub struct Angles {
 }
 
 // A measurement's forced outcome, and whether the qubit is set back to 0 after it.
-#[derive(Drop)]
+#[derive(Clone, Copy)]
 pub struct Forced {
     pub outcome: u8,
     pub reset: u8,
 }
 
 // A bit flip's probability, and the draw supplied for it.
-#[derive(Drop)]
+#[derive(Clone, Copy)]
 pub struct Noise {
     pub prob: f64,
     pub draw: f64,
 }
 
 // One gate with its own numbers: the target first, then its controls or second qubit, then what it is fed.
-#[derive(Drop)]
+#[derive(Clone, Copy)]
 pub enum Gate {
     H(u8, Controls),
     X(u8, Controls),
@@ -98,7 +100,7 @@ pub enum Gate {
 }
 
 // What stands behind field 04 of a gate's record: its controls or second qubit, and what it is fed.
-#[derive(Drop)]
+#[derive(Clone, Copy)]
 pub enum Shape {
     Plain(Controls),
     Angled(Controls, Angle),
@@ -109,7 +111,7 @@ pub enum Shape {
 }
 
 // A gate in parts: a row of 01's table of codes.
-#[derive(Drop)]
+#[derive(Clone, Copy)]
 pub struct Parts {
     pub code: u8,
     pub target: u8,
@@ -117,7 +119,7 @@ pub struct Parts {
 }
 
 // A gate record.
-#[derive(Drop)]
+#[derive(Clone, Copy)]
 pub struct Record {
     pub session: u32,
     pub number: u16,
@@ -125,7 +127,7 @@ pub struct Record {
 }
 
 // The refusals, in the order of 01's table.
-#[derive(Drop)]
+#[derive(Clone, Copy)]
 pub enum Refusal {
     Size,
     Length,
@@ -142,7 +144,7 @@ pub enum Refusal {
 }
 
 // What a kernel, a measurement or a matrix call answers.
-#[derive(Drop)]
+#[derive(Clone, Copy)]
 pub enum Answer {
     Taken,
     Value(u8),
@@ -150,28 +152,28 @@ pub enum Answer {
 }
 
 // A value of a flip or a measurement, or none.
-#[derive(Drop)]
+#[derive(Clone, Copy)]
 pub enum ValueOrNone {
     None,
     Value(u8),
 }
 
 // What a delivery answers: AGAIN, which tells a value or none, or what a call answers.
-#[derive(Drop)]
+#[derive(Clone, Copy)]
 pub enum Reply {
     Again(ValueOrNone),
     Said(Answer),
 }
 
 // Bytes are read as a record, or not.
-#[derive(Drop)]
+#[derive(Clone, Copy)]
 pub enum Read {
     Record(Record),
     Refused(Refusal),
 }
 
 // The writer answers how many bytes it wrote, or refusal 12.
-#[derive(Drop)]
+#[derive(Clone, Copy)]
 pub enum Written {
     Bytes(usize),
     Refused(Refusal),

@@ -1,5 +1,7 @@
 // The gate bench for C and Rust, as include/gate_bench.h declares it. Each call hands its numbers and lent buffers to a proved function and tells the answer as
 // one number. No call demands anything of its caller but what the header says of pointers.
+#![tactic(auto)]
+
 mod deliveries;
 mod feeds;
 mod kernels;

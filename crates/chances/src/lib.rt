@@ -1,4 +1,6 @@
 // What a measurement asks before it touches a buffer: tests 6 and 7, the outcome's probability, which is passed on, and 1 over its root.
+#![tactic(auto)]
+
 ghost use Rattle.std.specs.Prelude.{[], ◌∷◌, ◌≡◌};
 ghost use Rattle.book.specs.Answers.{◌⇒◌};
 ghost use Rattle.book.specs.Measuring.{bad_forced, bad_chance, one_over_root};

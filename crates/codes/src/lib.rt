@@ -1,4 +1,6 @@
 // The fields behind 04, by the gate's code, from a place of the bytes on: those with a mask are in the crate masked. Each field hands on the place behind it.
+#![tactic(auto)]
+
 ghost use Rattle.std.specs.Prelude.{◌≡◌, drop};
 ghost use Rattle.book.specs.Records.{second, forced, noisy, row_of, read_row};
 ghost use Rattle.shapes.specs.Gates.{made_of};

@@ -1,5 +1,7 @@
 // The chosen half is multiplied by r, and the other half becomes +0.0, block by block.
 // An inner room: its one caller, measurement, is proved to have judged the seat that is asked.
+#![tactic(auto)]
+
 ghost use Rattle.std.specs.Prelude.{◌≡◌, ◌+◌, ◌<◌, ◌^◌};
 ghost use Rattle.book.specs.Lent.{before, after, here};
 ghost use Rattle.book.specs.Measuring.{collapsed};

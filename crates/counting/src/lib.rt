@@ -1,4 +1,6 @@
 // What a record's answer makes of its session's count, of the value that the session keeps, and of its mark.
+#![tactic(auto)]
+
 ghost use Rattle.std.specs.Prelude.{◌≡◌};
 ghost use Rattle.book.specs.Answers.{says, replies};
 ghost use Rattle.counting.specs.Counts.{Counts, behind, Passes};
@@ -7,7 +9,7 @@ use book::{Answer, Reply, ValueOrNone};
 use marks::marked;
 
 // The count after a record, the value that is kept, the mark, and the record's reply.
-#[derive(Drop)]
+#[derive(Clone, Copy)]
 pub struct Counted {
     pub count: u16,
     pub value: ValueOrNone,

@@ -1,5 +1,7 @@
 // A matrix from four amplitudes and a target: those at the pairs' crossings, 0.0 elsewhere.
 // An inner room: its caller, unitaries, is proved to have judged the numbers that are asked.
+#![tactic(auto)]
+
 ghost use Rattle.std.specs.Prelude.{◌≡◌, ◌+◌, ◌*◌, ◌/◌, ◌%◌, ◌≤◌, ◌<◌};
 ghost use Rattle.book.specs.Lent.{before, after, here};
 ghost use Rattle.book.specs.Matrices.{crossing, without_target};

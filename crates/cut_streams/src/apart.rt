@@ -17,7 +17,7 @@ const MOST_BYTES: usize = 11845;
 // What no answer is.
 const NO_ANSWER: u32 = 4294967295;
 
-#[derive(Drop)]
+#[derive(Clone, Copy)]
 pub(crate) struct Tally {
     pub cuts: u64,
     pub answers: usize,

@@ -1,5 +1,7 @@
 // Takes stored streams apart: each argument names a file, a header with frames behind it. They are fed whole, in two pieces cut at every place, and
 // byte by byte; answers, count, every place of the state and what is kept at the end must be the whole's. docs/VECTORS-BENCH.md has the files.
+#![tactic(auto)]
+
 mod apart;
 mod compare;
 

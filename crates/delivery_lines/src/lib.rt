@@ -1,4 +1,6 @@
 // The line that the program prints of a delivery, at the start of a buffer of the caller's.
+#![tactic(auto)]
+
 ghost use Rattle.std.specs.Prelude.{◌+◌, ◌≤◌, length, ◌≡◌};
 ghost use Rattle.book.specs.Answers.{says, value_or_none, replies};
 ghost use Rattle.delivery_lines.specs.Deliveries.{answering, saying, value_of, value_told, adding, delivery_line};

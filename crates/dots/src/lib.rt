@@ -1,5 +1,7 @@
 // A matrix times a state: each row's sum starts at 0.0 and runs by rising inner index.
 // An inner room: its caller, products, is proved to have judged the lengths that are asked.
+#![tactic(auto)]
+
 ghost use Rattle.std.specs.Prelude.{◌≡◌, ◌+◌, ◌*◌, ◌≤◌};
 ghost use Rattle.book.specs.Lent.{before, after, here};
 ghost use Rattle.matrices.specs.Filled.{Holds, Filled};

@@ -1,5 +1,7 @@
 // What a product and a sum lose, exactly: in the machine's own sums and products, none of which loses anything itself.
 // An inner room: its functions ask for numbers in the window, and their callers are proved.
+#![tactic(auto)]
+
 ghost use Rattle.std.specs.Prelude.{◌≡◌};
 ghost use Rattle.std.specs.Float.{binary64};
 ghost use Rattle.exact.specs.Steps.{Near, Halved, Multiplied, lost};

@@ -1,6 +1,8 @@
 // The gates by number, and what each is fed: how many controls it takes, its own tests, and its rule where that needs F or leaves s0 as it is.
 // A number and its angle are passed as they are, and not as an enum: where a call names the number, the compiler keeps what that gate needs.
 // An inner room: the functions that put a rule ask for the multipliers' upper parts, and their callers are proved.
+#![tactic(auto)]
+
 ghost use Rattle.std.specs.Prelude.{◌≡◌};
 ghost use Rattle.book.specs.Gates.{angle_of, finite_tests};
 ghost use Rattle.book.specs.State.{pair};
@@ -107,7 +109,7 @@ pub fn own_of_upper(upper: u32, angle: Angle) -> Answer
 }
 
 // What the loop over keys is fed: RZ's number with its angle, or U's with its eight.
-#[derive(Drop)]
+#[derive(Clone, Copy)]
 pub struct Fed {
     pub number: u32,
     pub angle: Angle,

@@ -1,4 +1,6 @@
 // A form that takes bytes as they come, and makes each delivery when its frame is complete: it takes itself and a piece, and hands back the next one.
+#![tactic(auto)]
+
 ghost use Rattle.std.specs.Prelude.{◌≡◌, ◌++◌, ◌≤◌, length, drop, replicate};
 ghost use Rattle.book.specs.Lent.{before, after};
 ghost use Rattle.once.specs.AllOnce.{cut};
@@ -13,7 +15,7 @@ use sessions::Session;
 use words::add;
 
 // A session, and what is kept of the stream between two pieces: at most 97 bytes, and a number (crate gathering says which).
-#[derive(Drop)]
+#[derive(Clone, Copy)]
 pub struct Feed {
     pub session: Session,
     pub kept: u32,
@@ -21,14 +23,14 @@ pub struct Feed {
 }
 
 // What a call tells: nothing, or what its delivery was answered.
-#[derive(Drop)]
+#[derive(Clone, Copy)]
 pub enum Told {
     Nothing,
     Reply(Reply),
 }
 
 // A call hands back the next form, how many bytes of the piece it used, and what it tells. The bytes behind those are for the next call.
-#[derive(Drop)]
+#[derive(Clone, Copy)]
 pub struct Taken {
     pub next: Feed,
     pub used: usize,
@@ -36,7 +38,7 @@ pub struct Taken {
 }
 
 // The same for a caller who keeps the 97 bytes.
-#[derive(Drop)]
+#[derive(Clone, Copy)]
 pub struct Stepped {
     pub session: Session,
     pub kept: u32,
@@ -135,7 +137,7 @@ pub fn take_piece(
 }
 
 // Between two pieces whose answers are stored in a list: how many of its places are filled.
-#[derive(Drop)]
+#[derive(Clone, Copy)]
 struct Filling {
     session: Session,
     kept: u32,

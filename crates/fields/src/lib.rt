@@ -1,4 +1,6 @@
 // Fields of a gate record, read at a place of the bytes. Each answers what it holds and the place behind it, or that it is not there as listed.
+#![tactic(auto)]
+
 ghost use Rattle.std.specs.Prelude.{◌≡◌, ℕ, ◌+◌, ◌*◌, ◌^◌, ◌≤◌, ◌<◌, length, drop};
 ghost use Rattle.book.specs.Records.{float, read_angles};
 ghost use Rattle.fields.specs.Answers.{number_field, pair_field, angles_field};
@@ -7,21 +9,21 @@ use book::Angles;
 use heads::{number_at, starts_at};
 
 // What a field of one number answers.
-#[derive(Drop)]
+#[derive(Clone, Copy)]
 pub enum Field {
     Number(u64, usize),
     Missing,
 }
 
 // What a field of two floats answers.
-#[derive(Drop)]
+#[derive(Clone, Copy)]
 pub enum PairField {
     Floats(f64, f64, usize),
     Missing,
 }
 
 // What a field of the eight numbers of U answers.
-#[derive(Drop)]
+#[derive(Clone, Copy)]
 pub enum AnglesField {
     Angles(Angles, usize),
     Missing,

@@ -1,4 +1,6 @@
 // The state that the program begins with.
+#![tactic(auto)]
+
 ghost use Rattle.std.specs.Prelude.{◌≡◌, ℕ, ◌^◌, ◌≤◌, take};
 ghost use Rattle.first_state.specs.First.{first_state};
 

@@ -1,4 +1,6 @@
 // A record as six whole numbers and eight floats. Unused places are 0 and +0.0.
+#![tactic(auto)]
+
 ghost use Rattle.std.specs.Prelude.{◌≡◌, ◌≤◌, length};
 ghost use Rattle.flat.specs.Numbers.{two, laid, flat_of, over, flat_fields, flat_numbers, too_few, Puts};
 
@@ -11,7 +13,7 @@ const FIELDS: usize = 6;
 const NUMBERS: usize = 8;
 
 // What stands behind session, number, code and target. The floats are U's eight; another gate's stand in the first places.
-#[derive(Drop)]
+#[derive(Clone, Copy)]
 pub struct Flat {
     pub second: u32,
     pub reset: u32,

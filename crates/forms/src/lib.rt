@@ -2,6 +2,8 @@
 // It makes a loop for each form and each gate, since it knows the literals at a call, and in an arm the number that was matched:
 // so the arms are one call, and one proof serves them all. The last arm is no gate's. Their many parameters are those of a run.
 // An inner room: its function asks for keys whose pairs lie apart, and its callers are proved.
+#![tactic(auto)]
+
 ghost use Rattle.std.specs.Prelude.{◌+◌, ◌-◌, ◌<◌, ◌^◌};
 ghost use Rattle.book.specs.Lent.{before, after, here};
 ghost use Rattle.rules.specs.Rules.{quick_of};

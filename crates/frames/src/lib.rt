@@ -1,4 +1,6 @@
 // What the program reads behind the header, over slices: the frame that comes next. A frame may have come in two parts.
+#![tactic(auto)]
+
 ghost use Rattle.std.specs.Prelude.{◌≡◌, ◌+◌, ◌<◌, ◌++◌, length, get_or};
 ghost use Rattle.frames.specs.Frames.{next_of, sized};
 
@@ -6,7 +8,7 @@ use book::MOST_BYTES;
 
 // What the bytes behind the last frame begin with: a whole frame of so many bytes, one over 94 bytes that is read past, a wrong tag, or a frame of which
 // more has to come.
-#[derive(Drop)]
+#[derive(Clone, Copy)]
 pub enum Next {
     Whole(usize),
     Over(usize),

@@ -1,4 +1,6 @@
 // A record from its six whole numbers and eight floats. Places that a gate has no number for are not looked at.
+#![tactic(auto)]
+
 ghost use Rattle.std.specs.Prelude.{◌≡◌, ◌≤◌, length};
 ghost use Rattle.book.specs.Answers.{or_denied};
 ghost use Rattle.book.specs.Records.{row_of, read_says};

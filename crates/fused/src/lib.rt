@@ -1,5 +1,7 @@
 // IEEE 754's fusedMultiplyAdd on f64. Of operands that are no ordinary numbers the machine's own operations give F; ordinary numbers that are neither large
 // nor small go the short way where its two sides meet, and the others are left to terms.
+#![tactic(auto)]
+
 ghost use Rattle.std.specs.Prelude.{◌≡◌};
 ghost use Rattle.std.specs.Float.{binary64};
 ghost use Rattle.numbers.specs.Fused as Def;

@@ -1,6 +1,8 @@
 // The rules of RZ, and of P at s1. By value, operation for operation as 01 writes them. Where the numbers are near 1 their F stand side by side, behind one
 // test of the numbers and before one of the sides; what they multiply with is split once, before the first pair.
 // An inner room: its rules ask for the multipliers' upper parts, and their callers are proved.
+#![tactic(auto)]
+
 ghost use Rattle.std.specs.Prelude.{◌≡◌};
 ghost use Rattle.book.specs.Gates as Gates;
 ghost use Rattle.book.specs.Gates.{rz_rule};

@@ -3,6 +3,8 @@
 // A line has 70 bytes: a letter, four words of 16 hex digits with a space before each, and a line feed. `F x y z r` asks that r is F(x,y,z), and
 // `R x r x r` twice that r is the root of x. docs/VECTORS.md says how the list was made. A line that is not so is counted as unread, and so are bytes
 // left over at the end: what is printed shows a short or a spoilt list.
+#![tactic(auto)]
+
 mod text;
 
 use libc::{STDIN_FILENO, STDOUT_FILENO};
@@ -14,7 +16,7 @@ const LINE: usize = 70;
 // Of so many differences each is printed.
 const SHOWN: u64 = 5;
 
-#[derive(Drop)]
+#[derive(Clone, Copy)]
 struct Tally {
     fused: u64,
     fused_differ: u64,

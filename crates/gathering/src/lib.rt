@@ -1,5 +1,7 @@
 // Frames gathered from pieces of any size: a piece may be nothing, a part of a frame, or several frames and a part. What is kept between two pieces is a number
 // and at most 97 bytes. Here it is found what a piece gives first; nothing is copied.
+#![tactic(auto)]
+
 ghost use Rattle.std.specs.Prelude.{List, ◌++◌, ◌≡◌, ℕ, ◌+◌, ◌<◌};
 ghost use Rattle.std.proofs.Math.Option.{some};
 ghost use Rattle.frames.specs.Frames.{next_of};
@@ -14,7 +16,7 @@ use frames::{Next, next_frame};
 pub const STOPPED: u32 = 97;
 
 // What a piece completes first: no frame, one with so many bytes of contents, or one that is too long.
-#[derive(Drop)]
+#[derive(Clone, Copy)]
 pub enum Due {
     Nothing,
     Frame(usize),
@@ -22,7 +24,7 @@ pub enum Due {
 }
 
 // How many bytes of the piece were used, what is kept behind them, and what is due.
-#[derive(Drop)]
+#[derive(Clone, Copy)]
 pub struct Gathered {
     pub used: usize,
     pub kept: u32,

@@ -1,5 +1,7 @@
 // The places of a lent upper half, turned where the controls below the target choose them: key by key, two keys at a turn, or, under Z, straight along.
 // An inner room: its function asks for two buffers of one length, and its callers are proved.
+#![tactic(auto)]
+
 ghost use Rattle.std.specs.Prelude.{length, ◌≡◌};
 ghost use Rattle.book.specs.Lent.{before, after, here};
 ghost use Rattle.splits.specs.Splits.{PSplit};

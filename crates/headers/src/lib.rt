@@ -1,10 +1,12 @@
 // The header that the program reads, over a slice, and what stands behind it.
+#![tactic(auto)]
+
 ghost use Rattle.std.specs.Prelude.{◌≡◌, ℕ, ◌+◌, ◌≤◌, ◌<◌, length, take, drop};
 ghost use Rattle.book.specs.Records.{number};
 ghost use Rattle.headers.specs.Headers.{header_of};
 
 // A header gives n and the session, or is bad.
-#[derive(Drop)]
+#[derive(Clone, Copy)]
 pub enum Header {
     Good(u32, u32),
     Bad,

@@ -1,5 +1,7 @@
 // The number that bytes are, and whether a field of a tag and a length stands at a place.
 // An inner room: its callers are proved to have the bytes that are asked.
+#![tactic(auto)]
+
 ghost use Rattle.std.specs.Prelude.{◌≡◌, ◌+◌, ◌^◌, ◌≤◌, ◌<◌, length, take, drop};
 ghost use Rattle.book.specs.Records.{number, starts};
 

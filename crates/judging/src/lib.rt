@@ -1,5 +1,7 @@
 // What a call does before it touches a buffer: the tests of 01's table, in their order. A call is judged once: its seat, 1 to 5 (crate seats), and
 // then its own tests.
+#![tactic(auto)]
+
 mod sized;
 
 ghost use Rattle.std.specs.Prelude.{◌≡◌, ◌++◌};

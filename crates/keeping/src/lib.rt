@@ -1,5 +1,7 @@
 // A session as a caller of the archive keeps it: eight words. n, its number, the count, the value, the mark, and three for requests to come.
 // Any eight words are a session, and words that no delivery has to change stay as they are.
+#![tactic(auto)]
+
 ghost use Rattle.std.specs.Prelude.{◌≡◌, ◌≤◌, length};
 ghost use Rattle.book.specs.Answers.{value_or_none};
 ghost use Rattle.keeping.specs.Kept.{value_in, session_in, fresh_words, written, Worded, Keeps};

@@ -1,5 +1,7 @@
 // The chosen pairs one by one, key by key: for the gates whose rule needs F.
 // An inner room: its function asks for keys whose pairs lie apart, and its callers are proved.
+#![tactic(auto)]
+
 ghost use Rattle.book.specs.Lent.{before, after, here, SameSize};
 ghost use Rattle.book.specs.State.{at};
 ghost use Rattle.fed.specs.Named.{fused_of, put_of};

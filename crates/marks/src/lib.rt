@@ -1,4 +1,6 @@
 // The running mark of what was taken.
+#![tactic(auto)]
+
 ghost use Rattle.std.specs.Prelude.{◌≡◌, ◌+◌, ◌*◌, ◌/◌, ◌%◌, ◌^◌};
 ghost use Rattle.book.specs.Sessions.{marked};
 

@@ -1,4 +1,6 @@
 // The fields behind 04 of a gate that has a control mask, codes 1 to 9, from a place of the bytes on. Each field hands on the place behind it.
+#![tactic(auto)]
+
 ghost use Rattle.std.specs.Prelude.{◌≡◌, drop};
 ghost use Rattle.book.specs.Records.{plain, angled, eight, read_row};
 ghost use Rattle.shapes.specs.Gates.{made_of, plain_gate, angled_gate};
@@ -9,7 +11,7 @@ use fields::{AnglesField, Field, PairField, angles_field, number_field, pair_fie
 use shapes::{Made, angled_gate, plain_gate};
 
 // What the field of the mask answers.
-#[derive(Drop)]
+#[derive(Clone, Copy)]
 pub enum MaskField {
     Controls(Controls, usize),
     Missing,

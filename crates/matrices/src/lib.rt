@@ -1,4 +1,6 @@
 // What every matrix call asks first: n from 1 to 6, and each buffer of exactly its length. With it go the laws of stretches of places that were filled.
+#![tactic(auto)]
+
 ghost use Rattle.std.specs.Prelude.{◌||◌, ◌≡◌};
 ghost use Rattle.book.specs.Kernels.{bad_size, bad_length};
 ghost use Rattle.book.specs.Lent.{before};

@@ -1,4 +1,6 @@
 // Forced measurement: the port of measurement.rs. The probability is known before the first store, so a refusal leaves both buffers as they were.
+#![tactic(auto)]
+
 ghost use Rattle.book.specs.Answers.{Does};
 ghost use Rattle.book.specs.Calls.{act};
 ghost use Rattle.book.specs.Lent.{before, after, here};

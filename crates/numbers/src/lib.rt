@@ -1,5 +1,6 @@
 // The numbers of the bench, as definitions and theorems: specs/ says what F and the root of a format's values are, and proofs/ that they are IEEE 754's.
 // There is no code here but binary64 in numbers, for the crates that compute F and the root.
+#![tactic(auto)]
 
 // How many binary digits a significand has.
 pub const PRECISION: u64 = 53;

@@ -1,4 +1,6 @@
 // A float as an operand: whether it is finite, whether it is an ordinary number (finite and not zero), and such a number taken apart.
+#![tactic(auto)]
+
 ghost use Rattle.std.specs.Prelude.{◌≡◌, ◌*◌, ◌^◌, T};
 ghost use Rattle.std.specs.Float.{binary64};
 ghost use Rattle.std.specs.Float.Ieee.{low};
@@ -37,7 +39,7 @@ pub fn with_one_nan(x: f64) -> f64
 }
 
 // m * 2^e smallest values, with a sign.
-#[derive(Drop)]
+#[derive(Clone, Copy)]
 pub struct Number {
     pub neg: bool,
     pub m: u64,

@@ -13,7 +13,7 @@ pub(crate) const END: u64 = 2;
 pub(crate) const UNREAD: u64 = 3;
 
 // What is called. given is the answer that is expected, or the target of a gate's matrix; length is the record's.
-#[derive(Drop)]
+#[derive(Clone, Copy)]
 pub(crate) struct Head {
     pub(crate) kind: u8,
     pub(crate) n: u8,

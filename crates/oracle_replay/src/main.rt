@@ -1,5 +1,7 @@
 // Replays a sample of the given Rust's answers, read from standard input, and prints how many cases there were and how many differ in any bit.
 // docs/VECTORS-ORACLE.md has the format, and how the sample was made. What cannot be read as a case is counted as unread, and nothing behind it is read.
+#![tactic(auto)]
+
 mod case;
 mod floats;
 mod record;

@@ -1,5 +1,7 @@
 // The laws of the pairs that a target and its controls choose, in proofs/; and one pair of amplitudes read and written by value, or two written at once.
 // An inner room: its functions ask for places that are there, and their callers are proved.
+#![tactic(auto)]
+
 ghost use Rattle.std.specs.Prelude.{◌≡◌};
 ghost use Rattle.book.specs.Lent.{before, after, here, SameSize};
 ghost use Rattle.book.specs.State.{at};

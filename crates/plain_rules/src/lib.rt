@@ -1,4 +1,6 @@
 // The rules of X, Y and H on a pair of amplitudes, by value, operation for operation as 01 writes them.
+#![tactic(auto)]
+
 ghost use Rattle.std.specs.Prelude.{◌≡◌};
 ghost use Rattle.book.specs.Gates.{x_rule, y_rule, h_rule};
 

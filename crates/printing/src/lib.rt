@@ -1,4 +1,6 @@
 // The program's lines put one behind the other into a buffer, as far as it goes. Each function answers the place behind its lines.
+#![tactic(auto)]
+
 ghost use Rattle.std.specs.Prelude.{cond, [], ◌≡◌, ◌≤◌, length};
 ghost use Rattle.book.specs.Answers.{replies, buffers};
 ghost use Rattle.book.specs.Sessions.{Session};

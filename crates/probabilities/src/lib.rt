@@ -1,5 +1,7 @@
 // The probability of an outcome: the squares of its half, summed by rising index.
 // An inner room: its one caller, measurement, is proved to have judged the seat that the sums ask.
+#![tactic(auto)]
+
 ghost use Rattle.std.specs.Prelude.{◌≡◌, ◌-◌, ◌<◌, ◌^◌};
 ghost use Rattle.book.specs.Lent.{before, here};
 ghost use Rattle.book.specs.Measuring.{summed, probability};

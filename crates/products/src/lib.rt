@@ -1,4 +1,5 @@
 // The two products of unitaries.rs over lent buffers: a matrix times a matrix, and a matrix times a state. Each call is judged before the first store.
+#![tactic(auto)]
 
 ghost use Rattle.book.specs.Answers.{Does};
 ghost use Rattle.book.specs.Lent.{before, after};

@@ -1,4 +1,6 @@
 // The program over slices, piece by piece: bench_run reads and writes, and does all between by these functions. Crate whole_run puts them together.
+#![tactic(auto)]
+
 ghost use Rattle.std.specs.Prelude.{◌≡◌, ◌+◌, ◌%◌, ◌^◌, ◌≤◌, length};
 ghost use Rattle.book.specs.Answers.{buffers};
 ghost use Rattle.book.specs.Lent.{before, after};
@@ -18,21 +20,21 @@ pub const PIECE: usize = 2048;
 pub const OUT: usize = 262400;
 
 // What is known between two pieces: the form, and the number of the next delivery.
-#[derive(Drop)]
+#[derive(Clone, Copy)]
 pub struct Running {
     pub feed: Feed,
     pub index: u64,
 }
 
 // The same behind a piece, and where its lines end in the buffer.
-#[derive(Drop)]
+#[derive(Clone, Copy)]
 pub struct Printed {
     pub next: Running,
     pub at: usize,
 }
 
 // Where the next line begins, and its number.
-#[derive(Drop)]
+#[derive(Clone, Copy)]
 struct Placed {
     at: usize,
     index: u64,

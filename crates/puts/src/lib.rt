@@ -1,4 +1,6 @@
 // Words put into a buffer behind a place, as far as it goes.
+#![tactic(auto)]
+
 ghost use Rattle.puts.specs.Put.{Put};
 
 // Words behind a place. What finds no room is left out.

@@ -1,4 +1,6 @@
 // The reader of gate records: it takes each field's answer apart, and leaves at the first field that is not there as listed.
+#![tactic(auto)]
+
 ghost use Rattle.std.specs.Prelude.{◌≡◌};
 ghost use Rattle.book.specs.Answers.{or_denied};
 ghost use Rattle.book.specs.Records.{read_says, read_record};

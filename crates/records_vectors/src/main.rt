@@ -1,5 +1,7 @@
 // Reads byte strings from standard input, a line of hex digits for each, and prints for each what the reader reads in it, and what the writer
 // writes back. The list, and what is to be printed, were made by another program (docs/VECTORS-RECORDS.md).
+#![tactic(auto)]
+
 mod lines;
 mod tell;
 mod text;

@@ -2,6 +2,8 @@
 //
 // An ordinary number above zero is made a number times a power of four. The root of that number is worked out digit by digit, with four digits more
 // than are kept and rounded to odd, and packed. The other operands need no digits.
+#![tactic(auto)]
+
 ghost use Rattle.std.specs.Prelude.{◌≡◌, ◌+◌, ◌*◌, ◌^◌, ◌≤◌, ◌<◌};
 ghost use Rattle.std.specs.Float.{binary64};
 ghost use Rattle.std.specs.Float.Ieee.{prec};
@@ -28,7 +30,7 @@ const BEHIND: u64 = 30;
 const ABOVE: u64 = BELOW - 1 - BEHIND;
 
 // A root by digits: the digits to come, the root so far and the rest.
-#[derive(Drop)]
+#[derive(Clone, Copy)]
 struct Partial {
     a: u64,
     q: u64,
@@ -78,7 +80,7 @@ fn root_digits(n: u64) -> u64
 }
 
 // s * 4^e.
-#[derive(Drop)]
+#[derive(Clone, Copy)]
 struct Fourfold {
     s: u64,
     e: u64,

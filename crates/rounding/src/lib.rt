@@ -3,6 +3,8 @@
 // Of the count in smallest values an f64 keeps PRECISION leading digits and drops k. It is first cut to two digits more, rounded to odd: a count of
 // quarters. The nearest whole number q to those is the significand, and q * 2^k in bits is k * HIDDEN + q, whether q is subnormal, normal, or one digit
 // too long after rounding; from the infinity's bits on it is the infinity.
+#![tactic(auto)]
+
 mod odd;
 
 ghost use Rattle.std.specs.Prelude.{◌≡◌, ◌+◌, ◌-◌, ◌*◌, ◌^◌, ◌<◌};

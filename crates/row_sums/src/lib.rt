@@ -1,5 +1,7 @@
 // A matrix times a matrix, row by row: within a row, one inner index after the other is added to all of the row's places. The same sums in the same order as
 // place by place, with a straight loop over neighbours. An inner room: its caller, products, is proved to have judged the lengths that are asked.
+#![tactic(auto)]
+
 ghost use Rattle.std.specs.Prelude.{◌+◌, ◌*◌, ◌≤◌};
 ghost use Rattle.book.specs.Lent.{before, after, here};
 ghost use Rattle.matrices.specs.Filled.{Holds, Filled};

@@ -1,4 +1,6 @@
 // The rules of the gates that need no F, by the gate's number; what Z makes of s1; and U's matrix, passed on.
+#![tactic(auto)]
+
 ghost use Rattle.std.specs.Prelude.{◌≡◌};
 ghost use Rattle.rules.specs.Rules.{quick_of, z_upper};
 

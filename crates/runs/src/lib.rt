@@ -1,5 +1,7 @@
 // The chosen pairs run by run, for the gates that need no F: each run is lent as one part of both buffers.
 // An inner room: its function asks for the cut of the fixed bits, and its callers are proved.
+#![tactic(auto)]
+
 ghost use Rattle.std.specs.Prelude.{◌+◌, ◌-◌};
 ghost use Rattle.book.specs.Lent.{before, after, here};
 ghost use Rattle.rules.specs.Rules.{quick_of};

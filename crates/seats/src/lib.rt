@@ -1,4 +1,6 @@
 // The seat of a gate: tests 1 to 5 of 01's table, in their order. Below judging, in a small crate, since each edit of a test proves its crate anew.
+#![tactic(auto)]
+
 ghost use Rattle.std.specs.Prelude.{◌||◌, ◌≡◌, ◌++◌, ◌%◌, ◌^◌, leb};
 ghost use Rattle.book.specs.Kernels.{size_tests, seat_tests};
 ghost use Rattle.book.specs.Lent.{before};

@@ -1,4 +1,6 @@
 // Sessions: each delivery takes the session and hands back the next one, with the answer. However often a record comes, it is run once.
+#![tactic(auto)]
+
 ghost use Rattle.std.specs.Prelude.{◌≡◌};
 ghost use Rattle.book.specs.Answers.{replies, or_denied};
 ghost use Rattle.book.specs.Lent.{before, after};
@@ -14,7 +16,7 @@ use once::next_size;
 use standing::{Standing, stand};
 
 // n qubits, the session's number, the count of records taken, the value of the last of them, and the mark over their bytes.
-#[derive(Drop)]
+#[derive(Clone, Copy)]
 pub struct Session {
     pub n: u32,
     pub number: u32,
@@ -24,7 +26,7 @@ pub struct Session {
 }
 
 // A delivery hands back the next session, its reply, and the count after it.
-#[derive(Drop)]
+#[derive(Clone, Copy)]
 pub struct Delivered {
     pub next: Session,
     pub reply: Reply,
@@ -32,7 +34,7 @@ pub struct Delivered {
 }
 
 // Starting a session gives one, or refusal 1.
-#[derive(Drop)]
+#[derive(Clone, Copy)]
 pub enum Started {
     Fresh(Session),
     Refused(Refusal),

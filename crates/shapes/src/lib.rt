@@ -1,4 +1,6 @@
 // The table of the twelve gates, there and back: a gate's code, target and shape, and the gates of the codes that share a shape.
+#![tactic(auto)]
+
 ghost use Rattle.std.specs.Prelude.{◌≡◌};
 ghost use Rattle.book.specs.Records.{parts, parts_of};
 ghost use Rattle.shapes.specs.Gates.{plain_gate, angled_gate};
@@ -6,7 +8,7 @@ ghost use Rattle.shapes.specs.Gates.{plain_gate, angled_gate};
 use book::{Angle, Controls, Gate, Parts, Shape};
 
 // A gate, or none.
-#[derive(Drop)]
+#[derive(Clone, Copy)]
 pub enum Made {
     Gate(Gate),
     Missing,

@@ -4,6 +4,8 @@
 // hair of s. So F lies between s + (v - hair) and s + (v + hair), each rounded once. Where these two are one number, that is F (Ziv); where they are not,
 // F lies beside the middle of two numbers, and the long way decides.
 // An inner room: its callers test their numbers first, several at a time, and split a multiplier once for many products.
+#![tactic(auto)]
+
 ghost use Rattle.std.specs.Prelude.{◌≡◌, true, not, T};
 ghost use Rattle.std.specs.Float.{binary64};
 ghost use Rattle.std.specs.Float.Ieee.{is_nan};
@@ -64,7 +66,7 @@ pub fn all_modest(a: f64, b: f64, c: f64, d: f64) -> bool
 const HAIR: f64 = 3.1554436208840472e-30;
 
 // Two numbers with F between them, or F twice.
-#[derive(Drop)]
+#[derive(Clone, Copy)]
 pub struct Sides {
     pub left: f64,
     pub right: f64,

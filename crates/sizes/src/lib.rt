@@ -1,4 +1,6 @@
 // Tests 1 and 2 of every call on buffers: n in its range, and both buffers of exactly the length that is asked.
+#![tactic(auto)]
+
 ghost use Rattle.std.specs.Prelude.{◌≡◌};
 ghost use Rattle.book.specs.Kernels.{bad_size, bad_length};
 ghost use Rattle.book.specs.Lent.{before};

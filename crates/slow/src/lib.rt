@@ -1,6 +1,8 @@
 // The slow engine: what a gate leaves at an index, worked out for that index alone in document 01's words, from input buffers to separate output buffers.
 // It goes by the book and by F: no pairs, no blocks, and no loop, choice or store of the kernels. Crate slow_gates has its calls.
 // An inner room: what it asks its caller has tested, and that is proved.
+#![tactic(auto)]
+
 ghost use Rattle.std.specs.Prelude.{◌≡◌, ◌^◌, ◌<◌};
 ghost use Rattle.book.specs.Kernels as Book;
 ghost use Rattle.book.specs.Lent.{before, after, here};
@@ -12,7 +14,7 @@ use book::{Amplitude, Controls};
 use slow_rules::{Rule, put};
 
 // What a gate does to the state: nothing, its rule to the chosen pairs, or the target exchanged with a second qubit.
-#[derive(Drop)]
+#[derive(Clone, Copy)]
 pub enum Deed {
     Nothing,
     Pairs(Rule),

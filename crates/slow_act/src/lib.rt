@@ -1,4 +1,6 @@
 // A gate by the slow engine, in place: into a second state, and from there back over the first. So a session may be run by it.
+#![tactic(auto)]
+
 ghost use Rattle.std.specs.Prelude.{◌&&◌, ◌≡◌, length};
 ghost use Rattle.book.specs.Calls.{act};
 ghost use Rattle.book.specs.Answers.{outcome_of};
@@ -16,14 +18,14 @@ use slow_swaps::{bit_flip_noise_apply, swap_apply};
 const MOST_PLACES: usize = 2048;
 
 // What the slow engine answers, or that it does not run such a gate: it has no call for measuring, and no room for more qubits.
-#[derive(Drop)]
+#[derive(Clone, Copy)]
 pub enum Ran {
     Slowly(Answer),
     Not,
 }
 
 // A gate as the slow engine is asked for it: a rule at a target with its controls, SWAP, a bit flip, or nothing that it can do.
-#[derive(Drop)]
+#[derive(Clone, Copy)]
 pub enum Asked {
     Pairs(u8, Controls, Rule),
     Swap(u8, u8),

@@ -1,5 +1,7 @@
 // The slow engine's calls: a gate from input buffers into separate output buffers of the same length, with the kernel's refusals. The outputs' lengths are
 // tested with the inputs'. SWAP and the bit flip are passed on, and there is none for measuring.
+#![tactic(auto)]
+
 ghost use Rattle.book.specs.Answers.{Does};
 ghost use Rattle.book.specs.Lent.{before, after};
 ghost use Rattle.book.specs.declared.Gate.TheVariants as Gate;

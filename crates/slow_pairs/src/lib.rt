@@ -1,4 +1,6 @@
 // A gate that has a rule, by the slow engine: judged once, then every index of the outputs.
+#![tactic(auto)]
+
 ghost use Rattle.std.specs.Prelude.{◌≡◌};
 ghost use Rattle.book.specs.Answers.{outcome_of, Does};
 ghost use Rattle.book.specs.Gates.{angle_of, finite_tests};

@@ -1,4 +1,6 @@
 // The slow engine's rules: each gate's as 01 lists it, with (a,b) at s0 and (c,d) at s1: each sum, difference and product rounds once, in the order written.
+#![tactic(auto)]
+
 ghost use Rattle.std.specs.Prelude.{◌≡◌};
 ghost use Rattle.book.specs.Gates as Gates;
 ghost use Rattle.book.specs.Gates.{h_rule, p_rule, rx_rule, ry_rule, rz_rule, u_matrix, u_rule};
@@ -9,7 +11,7 @@ use book::{Amplitude, Angle, Angles, Pair};
 use fused::fused;
 
 // The gates that have a rule, with the numbers that each is fed.
-#[derive(Drop)]
+#[derive(Clone, Copy)]
 pub enum Rule {
     H,
     X,

@@ -1,4 +1,6 @@
 // SWAP and the bit flip by the slow engine: judged, then every index of the outputs.
+#![tactic(auto)]
+
 ghost use Rattle.std.specs.Prelude.{◌||◌, ◌≡◌, ℕ, leb};
 ghost use Rattle.book.specs.Answers.{Does};
 ghost use Rattle.book.specs.Lent.{before, after};

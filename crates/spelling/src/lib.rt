@@ -1,4 +1,6 @@
 // A record's numbers from its bytes, and its bytes from the numbers, each told as one number: what the archive's two calls do.
+#![tactic(auto)]
+
 ghost use Rattle.book.specs.Records.{read_record};
 ghost use Rattle.from_flat.specs.Records.{record_of};
 ghost use Rattle.spelling.specs.Spelling.{Reads, Writes};

@@ -1,4 +1,6 @@
 // What RZ and U multiply with, split once for all pairs.
+#![tactic(auto)]
+
 ghost use Rattle.std.specs.Prelude.{true, ◌≡◌};
 ghost use Rattle.splits.specs.Splits.{some, AllThere, RzSplit, USplit};
 
@@ -6,7 +8,7 @@ use abreast::{upper, upper_beside};
 use book::{Angle, Matrix};
 
 // The upper parts of RZ's k, s and t = -s, and of U's p, q, u, v, w = -v and e.
-#[derive(Drop)]
+#[derive(Clone, Copy)]
 pub struct Uppers {
     pub k: f64,
     pub s: f64,

@@ -1,4 +1,6 @@
 // Where a record stands to its session: 9, 11, AGAIN, 10, or the next one.
+#![tactic(auto)]
+
 ghost use Rattle.std.specs.Prelude.{◌≡◌};
 ghost use Rattle.book.specs.Answers.{value_or_none};
 ghost use Rattle.book.specs.Sessions.{told_again};
@@ -7,7 +9,7 @@ ghost use Rattle.standing.specs.Stands.{Stood};
 use book::{Answer, Record, Refusal, Reply, ValueOrNone};
 
 // A record that is next goes on to its gate, with the count that a taken gate makes; any other has its reply.
-#[derive(Drop)]
+#[derive(Clone, Copy)]
 pub enum Standing {
     Next(u16),
     Answered(Reply),

@@ -1,5 +1,7 @@
 // The stored runs of the gate bench, one after the other: each argument names a file, which is run as both programs run their standard input, under a line
 // with its name: by the kernels, and then by the slow engine. docs/VECTORS-BENCH.md says what each shows and how it was made.
+#![tactic(auto)]
+
 use act::{FAST, SLOW};
 use libc::STDOUT_FILENO;
 

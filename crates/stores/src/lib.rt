@@ -1,5 +1,7 @@
 // Numbers, floats and fields stored from a place on; each field hands on the place behind it.
 // An inner room: its callers, the writer and the printer of lines, are proved to leave the room that each function asks.
+#![tactic(auto)]
+
 ghost use Rattle.std.specs.Prelude.{◌≡◌, ◌+◌, ◌*◌, ◌^◌, ◌≤◌, ◌<◌, ◌∷◌, length};
 ghost use Rattle.book.specs.Records.{bytes, floats, field};
 ghost use Rattle.stores.specs.Stores.{store, Stored};

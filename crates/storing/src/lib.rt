@@ -1,5 +1,7 @@
 // The fields behind 04, by their shape, stored from a place on.
 // An inner room: its function asks for room, and its caller is proved.
+#![tactic(auto)]
+
 ghost use Rattle.std.specs.Prelude.{◌+◌, ◌≤◌, length};
 ghost use Rattle.book.specs.Records.{mask_field, fields_of};
 ghost use Rattle.stores.specs.Stores.{Stored};

@@ -1,4 +1,6 @@
 // The program's output over slices: the lines that it prints, each at the start of a buffer of the caller's. That of a delivery is passed on.
+#![tactic(auto)]
+
 ghost use Rattle.std.specs.Prelude.{◌≡◌};
 ghost use Rattle.book.specs.Sessions.{Session};
 ghost use Rattle.io.specs.Counts.{IsPrefixLen};

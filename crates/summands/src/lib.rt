@@ -1,5 +1,7 @@
 // What both products do at one place of two buffers: an amplitude read and written by value, a product added to a sum, and a row of sums begun.
 // An inner room: its callers, dots and row_sums, are proved to stay within their buffers.
+#![tactic(auto)]
+
 ghost use Rattle.std.specs.Prelude.{◌≡◌, ◌+◌};
 ghost use Rattle.book.specs.Gates.{nought};
 ghost use Rattle.book.specs.Lent.{before, after, here};

@@ -1,4 +1,6 @@
 // SWAP and the bit flip: judged, then their pairs exchanged by the sweep of X.
+#![tactic(auto)]
+
 ghost use Rattle.std.specs.Prelude.{◌≤◌};
 ghost use Rattle.book.specs.Answers.{Does};
 ghost use Rattle.book.specs.Calls.{act};

@@ -1,4 +1,6 @@
 // A gate's rule put to each chosen pair: judged once, then swept.
+#![tactic(auto)]
+
 ghost use Rattle.book.specs.Answers.{Does};
 ghost use Rattle.book.specs.Lent.{before, after};
 ghost use Rattle.fed.specs.Named.{pair_gate};

@@ -1,5 +1,7 @@
 // F of three ordinary numbers, in whole numbers: two of them are multiplied exactly, into two limbs (wide), and the third is added in one unit, where digits
 // that cannot count are cut off (sum). The answer is rounded and packed once, by rounding::pack.
+#![tactic(auto)]
+
 mod sum;
 mod wide;
 

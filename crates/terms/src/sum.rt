@@ -14,7 +14,7 @@ use operands::Number;
 use rounding::{shift_to_odd, to_odd};
 
 // s * 2^e.
-#[derive(Drop)]
+#[derive(Clone, Copy)]
 struct Scaled {
     s: u64,
     e: u64,

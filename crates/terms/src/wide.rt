@@ -7,7 +7,7 @@ const LARGEST: u64 = 0xffff_ffff_ffff_ffff;
 
 const HALF: u64 = 0x1_0000_0000;
 
-#[derive(Drop)]
+#[derive(Clone, Copy)]
 pub(crate) struct Wide {
     pub(crate) hi: u64,
     pub(crate) lo: u64,

@@ -1,6 +1,8 @@
 // Conjugate transpose in place. Each place is exchanged with its mirror when the earlier of the two is reached, both negated on the way; a place of the
 // diagonal is its own mirror.
 // An inner room: its caller, unitaries, is proved to have judged the numbers that are asked.
+#![tactic(auto)]
+
 ghost use Rattle.std.specs.Prelude.{◌≡◌, ◌+◌, ◌*◌, ◌/◌, ◌%◌, ◌≤◌, ◌<◌};
 ghost use Rattle.book.specs.Lent.{before, after, here};
 ghost use Rattle.matrices.specs.Filled.{Holds};

@@ -1,6 +1,8 @@
 // U's rule. By value, operation for operation as 01 writes it. Where the numbers are near 1 its F stand side by side, behind one test of the numbers and each
 // step before one of the sides.
 // An inner room: its rule asks for the multipliers' upper parts, and its caller is proved.
+#![tactic(auto)]
+
 ghost use Rattle.std.specs.Prelude.{◌≡◌};
 ghost use Rattle.book.specs.Gates.{u_rule};
 ghost use Rattle.splits.specs.Splits.{USplit};

@@ -1,5 +1,6 @@
 // Dense matrices of side 2^n, n from 1 to 6: the port of unitaries.rs over lent buffers. Each call is judged before the first store. The two products are in
 // the crate products, and passed on here.
+#![tactic(auto)]
 
 ghost use Rattle.std.specs.Prelude.{◌++◌};
 ghost use Rattle.book.specs.Answers.{Does};

@@ -1,4 +1,6 @@
 // Z and P leave s0 as it is: the upper half of each block of 2 * 2^target places is lent on and written there.
+#![tactic(auto)]
+
 ghost use Rattle.std.specs.Prelude.{◌≡◌};
 ghost use Rattle.book.specs.Answers.{Does};
 ghost use Rattle.book.specs.Lent.{before, after, here};

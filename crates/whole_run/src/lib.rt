@@ -1,4 +1,6 @@
 // The whole program over slices: from all bytes of the input to all bytes that are printed, in pieces as bench_run reads them.
+#![tactic(auto)]
+
 ghost use Rattle.std.specs.Prelude.{[], ◌≡◌, ◌≤◌};
 ghost use Rattle.book.specs.Lent.{before, after};
 ghost use Rattle.book.specs.Sessions as Book;

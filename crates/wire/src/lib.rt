@@ -1,5 +1,7 @@
 // An f64 and its bits, as gate records hold it: the bits of every NaN are read as the one NaN, which is written as 7FF8000000000000.
 // proofs/ has what the reader and the writer share: numbers and floats as bytes, there and back, and fields.
+#![tactic(auto)]
+
 ghost use Rattle.std.specs.Prelude.{◌≡◌};
 ghost use Rattle.std.specs.Float.{binary64};
 ghost use Rattle.std.specs.Float.Ieee.{of_bits, to_bits};

@@ -1,5 +1,7 @@
 // Words put behind a place of a buffer. Each answers the place behind them.
 // An inner room: its callers, the lines of the program, are proved to have the room that is asked.
+#![tactic(auto)]
+
 ghost use Rattle.std.specs.Prelude.{◌+◌, ◌^◌, ◌≤◌, ◌<◌, length};
 ghost use Rattle.io.specs.Digits.{last_digits};
 ghost use Rattle.words.specs.Words.{decimal, bits, mark_digits, Added};

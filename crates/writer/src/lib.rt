@@ -1,4 +1,6 @@
 // The writer of gate records: it touches only the record's bytes and answers how many they are, or refuses with 12 and touches nothing.
+#![tactic(auto)]
+
 ghost use Rattle.std.specs.Prelude.{◌≡◌, ◌+◌, ◌≤◌, length};
 ghost use Rattle.book.specs.Records.{written_says, wrote_of, left_by, fields_of};
 ghost use Rattle.stores.specs.Stores.{Stored};
