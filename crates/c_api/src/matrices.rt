@@ -1,5 +1,5 @@
 // The calls of unitaries.rs: matrices of side 2^n, n from 1 to 6.
-ghost use Rattle.book.specs.Lent.{before, after};
+ghost use Rattle.book.specs.Lent.{before, after, shown};
 ghost use Rattle.book.specs.Matrices.{gate_matrix, conjugate_transpose, product, product_state};
 ghost use Rattle.c_api.specs.Tells.{Tells, four_entries};
 
@@ -59,7 +59,7 @@ pub extern "C" fn gate_bench_multiply(
     imags: &mut [f64],
     n: u32,
 ) -> u32
-    ensures { Tells (product n (before ar ai) (before br bi) (before reals imags)) result (after reals imags) }
+    ensures { Tells (product n (shown ar ai) (shown br bi) (before reals imags)) result (after reals imags) }
 {
     tell(unitaries::multiply(ar, ai, br, bi, reals, imags, n))
 }
@@ -75,7 +75,7 @@ pub extern "C" fn gate_bench_apply_unitary(
     imags: &mut [f64],
     n: u32,
 ) -> u32
-    ensures { Tells (product_state n (before ar ai) (before sr si) (before reals imags)) result (after reals imags) }
+    ensures { Tells (product_state n (shown ar ai) (shown sr si) (before reals imags)) result (after reals imags) }
 {
     tell(unitaries::apply_unitary(ar, ai, sr, si, reals, imags, n))
 }

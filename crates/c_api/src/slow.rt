@@ -1,5 +1,5 @@
 // The slow engine's calls: a gate from input buffers into separate output buffers of the same length. `ones` as in kernels.
-ghost use Rattle.book.specs.Lent.{before, after};
+ghost use Rattle.book.specs.Lent.{before, after, shown};
 ghost use Rattle.book.specs.State.{controlled};
 ghost use Rattle.into.specs.Into.{into};
 ghost use Rattle.c_api.specs.Tells.{Tells, eight};
@@ -18,7 +18,7 @@ pub extern "C" fn gate_bench_slow_x_apply(
     target: u32,
     ones: u32,
 ) -> u32
-    ensures { Tells (into n (Gate.X target (controlled ones)) (before sr si) (before reals imags)) result
+    ensures { Tells (into n (Gate.X target (controlled ones)) (shown sr si) (before reals imags)) result
         (after reals imags) }
 {
     tell(slow_gates::x_apply(sr, si, reals, imags, n, target, Controls { ones }))
@@ -35,7 +35,7 @@ pub extern "C" fn gate_bench_slow_y_apply(
     target: u32,
     ones: u32,
 ) -> u32
-    ensures { Tells (into n (Gate.Y target (controlled ones)) (before sr si) (before reals imags)) result
+    ensures { Tells (into n (Gate.Y target (controlled ones)) (shown sr si) (before reals imags)) result
         (after reals imags) }
 {
     tell(slow_gates::y_apply(sr, si, reals, imags, n, target, Controls { ones }))
@@ -52,7 +52,7 @@ pub extern "C" fn gate_bench_slow_z_apply(
     target: u32,
     ones: u32,
 ) -> u32
-    ensures { Tells (into n (Gate.Z target (controlled ones)) (before sr si) (before reals imags)) result
+    ensures { Tells (into n (Gate.Z target (controlled ones)) (shown sr si) (before reals imags)) result
         (after reals imags) }
 {
     tell(slow_gates::z_apply(sr, si, reals, imags, n, target, Controls { ones }))
@@ -69,7 +69,7 @@ pub extern "C" fn gate_bench_slow_h_apply(
     target: u32,
     ones: u32,
 ) -> u32
-    ensures { Tells (into n (Gate.H target (controlled ones)) (before sr si) (before reals imags)) result
+    ensures { Tells (into n (Gate.H target (controlled ones)) (shown sr si) (before reals imags)) result
         (after reals imags) }
 {
     tell(slow_gates::h_apply(sr, si, reals, imags, n, target, Controls { ones }))
@@ -88,7 +88,7 @@ pub extern "C" fn gate_bench_slow_p_apply(
     cosine: f64,
     sine: f64,
 ) -> u32
-    ensures { Tells (into n (Gate.P target (controlled ones) (record { cosine = cosine; sine = sine })) (before sr si) (before reals imags)) result
+    ensures { Tells (into n (Gate.P target (controlled ones) (record { cosine = cosine; sine = sine })) (shown sr si) (before reals imags)) result
         (after reals imags) }
 {
     tell(slow_gates::p_apply(
@@ -116,7 +116,7 @@ pub extern "C" fn gate_bench_slow_rx_apply(
     cosine: f64,
     sine: f64,
 ) -> u32
-    ensures { Tells (into n (Gate.Rx target (controlled ones) (record { cosine = cosine; sine = sine })) (before sr si) (before reals imags)) result
+    ensures { Tells (into n (Gate.Rx target (controlled ones) (record { cosine = cosine; sine = sine })) (shown sr si) (before reals imags)) result
         (after reals imags) }
 {
     tell(slow_gates::rx_apply(
@@ -144,7 +144,7 @@ pub extern "C" fn gate_bench_slow_ry_apply(
     cosine: f64,
     sine: f64,
 ) -> u32
-    ensures { Tells (into n (Gate.Ry target (controlled ones) (record { cosine = cosine; sine = sine })) (before sr si) (before reals imags)) result
+    ensures { Tells (into n (Gate.Ry target (controlled ones) (record { cosine = cosine; sine = sine })) (shown sr si) (before reals imags)) result
         (after reals imags) }
 {
     tell(slow_gates::ry_apply(
@@ -172,7 +172,7 @@ pub extern "C" fn gate_bench_slow_rz_apply(
     cosine: f64,
     sine: f64,
 ) -> u32
-    ensures { Tells (into n (Gate.Rz target (controlled ones) (record { cosine = cosine; sine = sine })) (before sr si) (before reals imags)) result
+    ensures { Tells (into n (Gate.Rz target (controlled ones) (record { cosine = cosine; sine = sine })) (shown sr si) (before reals imags)) result
         (after reals imags) }
 {
     tell(slow_gates::rz_apply(
@@ -206,7 +206,7 @@ pub extern "C" fn gate_bench_slow_u_apply(
     cp: f64,
     sp: f64,
 ) -> u32
-    ensures { Tells (into n (Gate.U target (controlled ones) (eight ct st cl sl cpl spl cp sp)) (before sr si) (before reals imags)) result
+    ensures { Tells (into n (Gate.U target (controlled ones) (eight ct st cl sl cpl spl cp sp)) (shown sr si) (before reals imags)) result
         (after reals imags) }
 {
     tell(slow_gates::u_apply(
@@ -241,7 +241,7 @@ pub extern "C" fn gate_bench_slow_swap_apply(
     t0: u32,
     t1: u32,
 ) -> u32
-    ensures { Tells (into n (Gate.Swap t0 t1) (before sr si) (before reals imags)) result
+    ensures { Tells (into n (Gate.Swap t0 t1) (shown sr si) (before reals imags)) result
         (after reals imags) }
 {
     tell(slow_gates::swap_apply(sr, si, reals, imags, n, t0, t1))
@@ -259,7 +259,7 @@ pub extern "C" fn gate_bench_slow_bit_flip_noise_apply(
     prob: f64,
     draw: f64,
 ) -> u32
-    ensures { Tells (into n (Gate.BitFlip target (record { prob = prob; draw = draw })) (before sr si) (before reals imags)) result
+    ensures { Tells (into n (Gate.BitFlip target (record { prob = prob; draw = draw })) (shown sr si) (before reals imags)) result
         (after reals imags) }
 {
     tell(slow_gates::bit_flip_noise_apply(sr, si, reals, imags, n, target, Noise { prob, draw }))

@@ -3,7 +3,7 @@
 #![tactic(auto)]
 
 ghost use Rattle.std.specs.Prelude.{◌≡◌, ◌+◌, ◌*◌, ◌≤◌};
-ghost use Rattle.book.specs.Lent.{before, after, here};
+ghost use Rattle.book.specs.Lent.{before, after, here, shown, shown_here};
 ghost use Rattle.matrices.specs.Filled.{Holds, Filled};
 ghost use Rattle.dots.specs.Dots.{state_dot};
 
@@ -12,8 +12,8 @@ use summands::{add_product, read_at, write_at};
 
 // A row of A times a state.
 fn row_dot(ar: &[f64], ai: &[f64], br: &[f64], bi: &[f64], from: usize, side: usize) -> Amplitude
-    requires { Holds (from + side) (here ar ai) × Holds side (here br bi) }
-    ensures { result ≡ state_dot (before ar ai) from (before br bi) side }
+    requires { Holds (from + side) (shown_here ar ai) × Holds side (shown_here br bi) }
+    ensures { result ≡ state_dot (shown ar ai) from (shown br bi) side }
 {
     let mut sum = Amplitude { re: 0.0, im: 0.0 };
     let mut inner = 0;
@@ -36,8 +36,8 @@ pub fn fill_state(
     imags: &mut [f64],
     side: usize,
 )
-    requires { (side ≤ 64) × Holds (side * side) (here ar ai) × Holds side (here br bi) × Holds side (here reals imags) }
-    ensures { Filled 0 side (λ row. state_dot (before ar ai) (row * side) (before br bi) side) (before reals imags) (after reals imags) }
+    requires { (side ≤ 64) × Holds (side * side) (shown_here ar ai) × Holds side (shown_here br bi) × Holds side (here reals imags) }
+    ensures { Filled 0 side (λ row. state_dot (shown ar ai) (row * side) (shown br bi) side) (before reals imags) (after reals imags) }
 {
     let mut row = 0;
     while row < side {

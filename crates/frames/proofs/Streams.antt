@@ -245,9 +245,9 @@ stream_few r bs s = few_in (suc (length bs)) r bs s
 
 -- ---- cut in two
 
-infix 40 ◌andThen◌
+infix 40 ◌and_then◌
 -- a stream, and what more bytes give behind it
-abbrev pub ◌andThen◌ : Stream → List ℕ → Stream
+abbrev pub ◌and_then◌ : Stream → List ℕ → Stream
 first and_then ys =
     let second = stream_of first.rest ys in
     record { deliveries = first.deliveries ++ second.deliveries; rest = second.rest }

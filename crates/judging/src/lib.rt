@@ -7,7 +7,7 @@ mod sized;
 ghost use Rattle.std.specs.Prelude.{◌≡◌, ◌++◌};
 ghost use Rattle.book.specs.Gates.{all_finite, finite_tests};
 ghost use Rattle.book.specs.Kernels.{size_tests};
-ghost use Rattle.book.specs.Lent.{before};
+ghost use Rattle.book.specs.Lent.{shown};
 ghost use Rattle.seated.specs.Judging.{Judges, first_of, free_tests};
 
 use book::{ANY, Answer, Controls, Refusal};
@@ -17,7 +17,7 @@ pub use sized::size;
 
 // The seat of a gate that takes no control mask: 1 to 3.
 pub fn free_seat(reals: &[f64], imags: &[f64], n: u32, target: u32) -> Answer
-    ensures { Judges (size_tests n (before reals imags) ++ free_tests n target) result }
+    ensures { Judges (size_tests n (shown reals imags) ++ free_tests n target) result }
 {
     seat(reals, imags, n, target, Controls::of(0), ANY)
 }

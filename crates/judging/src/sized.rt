@@ -1,6 +1,6 @@
 // Tests 1 and 2 alone, of a call whose other tests come later.
 ghost use Rattle.book.specs.Kernels.{size_tests};
-ghost use Rattle.book.specs.Lent.{before};
+ghost use Rattle.book.specs.Lent.{shown};
 ghost use Rattle.seated.specs.Judging.{Judges};
 
 use book::{Answer, MOST_QUBITS, Refusal};
@@ -8,7 +8,7 @@ use sizes::{bad_length, bad_size};
 
 // n is 1 to 24, and both buffers have 2^n places.
 pub fn size(reals: &[f64], imags: &[f64], n: u32) -> Answer
-    ensures { Judges (size_tests n (before reals imags)) result }
+    ensures { Judges (size_tests n (shown reals imags)) result }
 {
     if bad_size(n, MOST_QUBITS) {
         return Answer::Refused(Refusal::Size);

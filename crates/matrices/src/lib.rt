@@ -3,7 +3,7 @@
 
 ghost use Rattle.std.specs.Prelude.{◌||◌, ◌≡◌};
 ghost use Rattle.book.specs.Kernels.{bad_size, bad_length};
-ghost use Rattle.book.specs.Lent.{before};
+ghost use Rattle.book.specs.Lent.{shown};
 ghost use Rattle.book.specs.Matrices.{most_matrix};
 
 pub use sizes::bad_length;
@@ -29,7 +29,7 @@ pub fn bad_lengths(
     imags: &[f64],
     size: usize,
 ) -> bool
-    ensures { result ≡ (bad_length entries (before ar ai) || bad_length size (before br bi) || bad_length size (before reals imags)) }
+    ensures { result ≡ (bad_length entries (shown ar ai) || bad_length size (shown br bi) || bad_length size (shown reals imags)) }
 {
     if bad_length(ar, ai, entries) {
         return true;

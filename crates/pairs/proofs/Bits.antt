@@ -8,7 +8,7 @@ use native.Mathlib.Decide.{dec_lt}
 use native.Mathlib.Numerals.{add-one}
 use native.Mathlib.Omega.{arith}
 use lib.Arith.{bin_ind}
-use lib.Bits.{bit_and, bit_or, and_self, and_step, or_step, and_comm, and_le_r, and_zero_r, or_add_and, or_block, or_zero_r}
+use lib.Bits.{bit_and, bit_or, and_self, and_step, or_step, and_comm, and_le_r, and_zero_l, and_zero_r, or_add_and, or_block, or_zero_r}
 use lib.Pow.{pow_pos, pow-add, pow-lt, split}
 use Rattle.book.proofs.Bits as Book
 use Rattle.book.specs.State.{bit}
@@ -31,7 +31,7 @@ or_covers a =
 pub next_least : (i f j : ℕ) → bit_and i f ≡ f → bit_and j f ≡ f → i < j → bit_or (i + 1) f ≤ j
 next_least i =
     bin_ind (λ (n : ℕ). (f j : ℕ) → bit_and n f ≡ f → bit_and j f ≡ f → n < j → bit_or (n + 1) f ≤ j)
-    (λ f j e k l. omega arith)
+    (λ f j e k l. let z : f ≡ 0 = omega (arith, and_zero_l f) in rw z (omega (arith, or_zero_r (0 + 1))))
     (λ n ih f j e k l.
     let en : bit_and (n / 2) (f / 2) ≡ f / 2 = omega (arith, and_step n f) in
     let yn : f % 2 ≤ n % 2 = omega (arith, and_step n f) in

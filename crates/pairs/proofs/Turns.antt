@@ -1,11 +1,11 @@
 -- The keys gone over run by run, for any rule: u is the start of a run, and one lent part of both buffers has its pairs. Assumes nothing.
-use Prim.Native.Nat.{ℕ, suc, ◌+◌, ◌-◌, ◌*◌, ◌/◌, ◌%◌, ◌^◌, ◌≤◌, ◌<◌}
+use Prim.Native.Nat.{ℕ, suc, zero-le, ◌+◌, ◌-◌, ◌*◌, ◌/◌, ◌%◌, ◌^◌, ◌≤◌, ◌<◌}
 use mathlib.Core.Logic.{◌⊎◌, inl, inr, ⊎_elim}
 use mathlib.Core.Path.{◌≡◌, refl, sym, ap, ap₂, ◌∙◌, subst}
 use native.Mathlib.Decide.{dec_lt}
 use native.Mathlib.Nat.{add-mul, one-mul, pow-suc, mod-lt, lt_of_mul-lt-mul_right, mul-le-mul_right, div-add-mod', mul-mod_left, zero-mod}
 use native.Mathlib.Omega.{arith}
-use borrow.Author.Rules.{zero≤}
+
 use lib.Bits.{bit_and, bit_or, and_self, and_le_r, and_mask, and_block}
 use lib.ListN.{length}
 use lib.Pow as Pow
@@ -322,7 +322,7 @@ module _ {n wide run stride back0 back1 : ℕ} {b₀ : Buffers} (ok : Runs n wid
                     v - (stride - 1),
                     record {
                       key = (f.1, m);
-                      from = zero≤;
+                      from = zero-le;
                       below = m;
                       lower = ap (λ (z : ℕ). z - back0) h ∙ lower_at (v - (stride - 1));
                       upper = ap (λ (z : ℕ). z - back1) h ∙ upper_at (v - (stride - 1));

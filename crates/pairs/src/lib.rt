@@ -3,7 +3,7 @@
 #![tactic(auto)]
 
 ghost use Rattle.std.specs.Prelude.{◌≡◌};
-ghost use Rattle.book.specs.Lent.{before, after, here, SameSize};
+ghost use Rattle.book.specs.Lent.{before, after, here, shown, shown_here, SameSize};
 ghost use Rattle.book.specs.State.{at};
 ghost use Rattle.pairs.specs.Pairs.{TwoPlaces, pair_at, PairPut};
 ghost use Rattle.pairs.specs.Runs.{FourPlaces, WrittenTwo};
@@ -11,8 +11,8 @@ ghost use Rattle.pairs.specs.Runs.{FourPlaces, WrittenTwo};
 use book::{Amplitude, Pair};
 
 pub fn read_pair(reals: &[f64], imags: &[f64], s0: usize, s1: usize) -> Pair
-    requires { TwoPlaces (here reals imags) s0 s1 }
-    ensures { result ≡ pair_at (before reals imags) s0 s1 }
+    requires { TwoPlaces (shown_here reals imags) s0 s1 }
+    ensures { result ≡ pair_at (shown reals imags) s0 s1 }
 {
     Pair {
         s0: Amplitude {

@@ -3,7 +3,7 @@
 #![tactic(auto)]
 
 ghost use Rattle.std.specs.Prelude.{◌≡◌, ◌-◌, ◌<◌, ◌^◌};
-ghost use Rattle.book.specs.Lent.{before, here};
+ghost use Rattle.book.specs.Lent.{shown, shown_here};
 ghost use Rattle.book.specs.Measuring.{summed, probability};
 ghost use Rattle.book.specs.State.{at, uncontrolled};
 ghost use Rattle.seated.specs.Judging.{Seated};
@@ -11,8 +11,8 @@ ghost use Rattle.probabilities.specs.Stretches.{Stretch, added};
 
 // The squares of a stretch of places, added to the sum so far.
 fn add_squares(reals: &[f64], imags: &[f64], from: usize, to: usize, start: f64) -> f64
-    requires { Stretch from to (here reals imags) }
-    ensures { result ≡ added (at (before reals imags)) from start (to - from) }
+    requires { Stretch from to (shown_here reals imags) }
+    ensures { result ≡ added (at (shown reals imags)) from start (to - from) }
 {
     let mut sum = start;
     let mut i = from;
@@ -27,8 +27,8 @@ fn add_squares(reals: &[f64], imags: &[f64], from: usize, to: usize, start: f64)
 
 // The half whose target bit is the outcome: one stretch of each block.
 fn sum_half(reals: &[f64], imags: &[f64], n: u32, target: u32, outcome: u8) -> f64
-    requires { Seated n target uncontrolled (here reals imags) × (outcome < 2) }
-    ensures { result ≡ summed target outcome (at (before reals imags)) (2 ^ n) }
+    requires { Seated n target uncontrolled (shown_here reals imags) × (outcome < 2) }
+    ensures { result ≡ summed target outcome (at (shown reals imags)) (2 ^ n) }
 {
     let size: usize = 1 << n;
     let bit: usize = 1 << target;
@@ -45,8 +45,8 @@ fn sum_half(reals: &[f64], imags: &[f64], n: u32, target: u32, outcome: u8) -> f
 
 // p0 or p1. No place has another bit, so that another outcome's sum stays 0.0.
 pub fn chance(reals: &[f64], imags: &[f64], n: u32, target: u32, outcome: u8) -> f64
-    requires { Seated n target uncontrolled (here reals imags) }
-    ensures { result ≡ probability n target outcome (at (before reals imags)) }
+    requires { Seated n target uncontrolled (shown_here reals imags) }
+    ensures { result ≡ probability n target outcome (at (shown reals imags)) }
 {
     if outcome == 0 {
         return sum_half(reals, imags, n, target, 0);

@@ -2,7 +2,7 @@
 #![tactic(auto)]
 
 ghost use Rattle.book.specs.Answers.{Does};
-ghost use Rattle.book.specs.Lent.{before, after};
+ghost use Rattle.book.specs.Lent.{before, after, shown};
 ghost use Rattle.book.specs.Matrices.{product, product_state};
 
 use book::{Answer, Refusal};
@@ -20,7 +20,7 @@ pub fn multiply(
     imags: &mut [f64],
     n: u32,
 ) -> Answer
-    ensures { Does (product n (before ar ai) (before br bi) (before reals imags)) result (after reals imags) }
+    ensures { Does (product n (shown ar ai) (shown br bi) (before reals imags)) result (after reals imags) }
 {
     if bad_size(n) {
         return Answer::Refused(Refusal::Size);
@@ -44,7 +44,7 @@ pub fn apply_unitary(
     imags: &mut [f64],
     n: u32,
 ) -> Answer
-    ensures { Does (product_state n (before ar ai) (before sr si) (before reals imags)) result (after reals imags) }
+    ensures { Does (product_state n (shown ar ai) (shown sr si) (before reals imags)) result (after reals imags) }
 {
     if bad_size(n) {
         return Answer::Refused(Refusal::Size);

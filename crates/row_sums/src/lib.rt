@@ -3,7 +3,7 @@
 #![tactic(auto)]
 
 ghost use Rattle.std.specs.Prelude.{◌+◌, ◌*◌, ◌≤◌};
-ghost use Rattle.book.specs.Lent.{before, after, here};
+ghost use Rattle.book.specs.Lent.{before, after, here, shown, shown_here};
 ghost use Rattle.matrices.specs.Filled.{Holds, Filled};
 ghost use Rattle.row_sums.specs.Sums.{Small, row_sum, row_dot, product_at};
 
@@ -21,8 +21,8 @@ fn add_row(
     start: usize,
     side: usize,
 )
-    requires { Holds (from + side) (here reals imags) × Holds (start + side) (here br bi) }
-    ensures { Filled from side (row_sum (before reals imags) from a (before br bi) start) (before reals imags) (after reals imags) }
+    requires { Holds (from + side) (here reals imags) × Holds (start + side) (shown_here br bi) }
+    ensures { Filled from side (row_sum (before reals imags) from a (shown br bi) start) (before reals imags) (after reals imags) }
 {
     let re = a.re;
     let im = a.im;
@@ -47,8 +47,8 @@ fn fill_row(
     from: usize,
     side: usize,
 )
-    requires { Small side (from + side) × Holds (from + side) (here ar ai) × Holds (side * side) (here br bi) × Holds (from + side) (here reals imags) }
-    ensures { Filled from side (row_dot side from (before ar ai) (before br bi) side) (before reals imags) (after reals imags) }
+    requires { Small side (from + side) × Holds (from + side) (shown_here ar ai) × Holds (side * side) (shown_here br bi) × Holds (from + side) (here reals imags) }
+    ensures { Filled from side (row_dot side from (shown ar ai) (shown br bi) side) (before reals imags) (after reals imags) }
 {
     clear_row(reals, imags, from, side);
     let mut inner = 0;
@@ -69,8 +69,8 @@ pub fn fill_product(
     imags: &mut [f64],
     side: usize,
 )
-    requires { (side ≤ 64) × Holds (side * side) (here ar ai) × Holds (side * side) (here br bi) × Holds (side * side) (here reals imags) }
-    ensures { Filled 0 (side * side) (product_at side (before ar ai) (before br bi)) (before reals imags) (after reals imags) }
+    requires { (side ≤ 64) × Holds (side * side) (shown_here ar ai) × Holds (side * side) (shown_here br bi) × Holds (side * side) (here reals imags) }
+    ensures { Filled 0 (side * side) (product_at side (shown ar ai) (shown br bi)) (before reals imags) (after reals imags) }
 {
     let mut row = 0;
     while row < side {

@@ -3,7 +3,7 @@
 
 ghost use Rattle.std.specs.Prelude.{◌||◌, ◌≡◌, ◌++◌, ◌%◌, ◌^◌, leb};
 ghost use Rattle.book.specs.Kernels.{size_tests, seat_tests};
-ghost use Rattle.book.specs.Lent.{before};
+ghost use Rattle.book.specs.Lent.{shown};
 ghost use Rattle.seated.specs.Judging.{Judges};
 
 use book::{Answer, Controls, MOST_QUBITS, Refusal};
@@ -30,7 +30,7 @@ pub fn seat(
     controls: Controls,
     most: u32,
 ) -> Answer
-    ensures { Judges (size_tests n (before reals imags) ++ seat_tests most n target controls) result }
+    ensures { Judges (size_tests n (shown reals imags) ++ seat_tests most n target controls) result }
 {
     let ones = controls.ones;
     let out = bad_size(n, MOST_QUBITS);

@@ -3,7 +3,7 @@
 
 ghost use Rattle.std.specs.Prelude.{◌≡◌};
 ghost use Rattle.book.specs.Kernels.{bad_size, bad_length};
-ghost use Rattle.book.specs.Lent.{before};
+ghost use Rattle.book.specs.Lent.{shown};
 
 // n is not 1 to most.
 pub fn bad_size(n: u32, most: u32) -> bool
@@ -17,7 +17,7 @@ pub fn bad_size(n: u32, most: u32) -> bool
 
 // A buffer is not of exactly the length that is asked.
 pub fn bad_length(reals: &[f64], imags: &[f64], size: usize) -> bool
-    ensures { result ≡ bad_length size (before reals imags) }
+    ensures { result ≡ bad_length size (shown reals imags) }
 {
     if reals.len() != size {
         return true;

@@ -5,7 +5,7 @@
 
 ghost use Rattle.std.specs.Prelude.{◌≡◌, ◌^◌, ◌<◌};
 ghost use Rattle.book.specs.Kernels as Book;
-ghost use Rattle.book.specs.Lent.{before, after, here};
+ghost use Rattle.book.specs.Lent.{here, shown, shown_here};
 ghost use Rattle.book.specs.State.{at, held, placed};
 ghost use Rattle.slow_rules.specs.Rules.{rule_of};
 ghost use Rattle.slow.specs.Slow.{leaves, second_of, There, Ready, Reaches};
@@ -23,8 +23,8 @@ pub enum Deed {
 
 // The amplitude at an index.
 fn amplitude_at(reals: &[f64], imags: &[f64], i: usize) -> Amplitude
-    requires { There (here reals imags) i }
-    ensures { result ≡ at (before reals imags) i }
+    requires { There (shown_here reals imags) i }
+    ensures { result ≡ at (shown reals imags) i }
 {
     Amplitude {
         re: reals[i],
@@ -41,8 +41,8 @@ fn place_of_pair(
     imags: &[f64],
     i: usize,
 ) -> Amplitude
-    requires { Reaches target target (here reals imags) i }
-    ensures { result ≡ placed (rule_of rule) target controls (at (before reals imags)) i }
+    requires { Reaches target target (shown_here reals imags) i }
+    ensures { result ≡ placed (rule_of rule) target controls (at (shown reals imags)) i }
 {
     let ones = controls.ones as usize;
     let bit: usize = 1 << target;
@@ -78,8 +78,8 @@ fn place(
     imags: &[f64],
     i: usize,
 ) -> Amplitude
-    requires { Reaches target (second_of deed target) (here reals imags) i }
-    ensures { result ≡ leaves deed target controls (at (before reals imags)) i }
+    requires { Reaches target (second_of deed target) (shown_here reals imags) i }
+    ensures { result ≡ leaves deed target controls (at (shown reals imags)) i }
 {
     match deed {
         Deed::Nothing => amplitude_at(reals, imags, i),
@@ -99,9 +99,9 @@ pub fn fill(
     reals: &mut [f64],
     imags: &mut [f64],
 )
-    requires ready { Ready n target (second_of deed target) (here sr si) }
+    requires ready { Ready n target (second_of deed target) (shown_here sr si) }
     requires ready_2 { Ready n target target (here reals imags) }
-    ensures { after reals imags ≡ held (2 ^ n) (leaves deed target controls (at (before sr si))) }
+    ensures { after reals imags ≡ held (2 ^ n) (leaves deed target controls (at (shown sr si))) }
 {
     let size: usize = 1 << n;
     let mut i: usize = 0;

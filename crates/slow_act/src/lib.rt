@@ -4,7 +4,7 @@
 ghost use Rattle.std.specs.Prelude.{◌&&◌, ◌≡◌, length};
 ghost use Rattle.book.specs.Calls.{act};
 ghost use Rattle.book.specs.Answers.{outcome_of};
-ghost use Rattle.book.specs.Lent.{before, after, here, SameSize};
+ghost use Rattle.book.specs.Lent.{before, after, here, shown, SameSize};
 ghost use Rattle.into.specs.Into.{into_tests};
 ghost use Rattle.slow_act.specs.Runs.{asked_of, can, call_for, has_room, Runs};
 
@@ -61,7 +61,7 @@ fn act_into(
     reals: &mut [f64],
     imags: &mut [f64],
 ) -> Ran
-    ensures { Runs (can asked) (outcome_of (into_tests n (before sr si) (before reals imags)) (before reals imags) (call_for asked n (before sr si)))
+    ensures { Runs (can asked) (outcome_of (into_tests n (shown sr si) (before reals imags)) (before reals imags) (call_for asked n (shown sr si)))
         (before reals imags) result (after reals imags) }
 {
     match asked {

@@ -3,7 +3,7 @@
 #![tactic(auto)]
 
 ghost use Rattle.book.specs.Answers.{Does};
-ghost use Rattle.book.specs.Lent.{before, after};
+ghost use Rattle.book.specs.Lent.{before, after, shown};
 ghost use Rattle.book.specs.declared.Gate.TheVariants as Gate;
 ghost use Rattle.into.specs.Into.{into};
 
@@ -22,7 +22,7 @@ pub fn h_apply(
     target: u32,
     controls: Controls,
 ) -> Answer
-    ensures { Does (into n (Gate.H target controls) (before sr si) (before reals imags)) result (after reals imags) }
+    ensures { Does (into n (Gate.H target controls) (shown sr si) (before reals imags)) result (after reals imags) }
 {
     on_pairs(sr, si, reals, imags, n, target, controls, Rule::H)
 }
@@ -37,7 +37,7 @@ pub fn x_apply(
     target: u32,
     controls: Controls,
 ) -> Answer
-    ensures { Does (into n (Gate.X target controls) (before sr si) (before reals imags)) result (after reals imags) }
+    ensures { Does (into n (Gate.X target controls) (shown sr si) (before reals imags)) result (after reals imags) }
 {
     on_pairs(sr, si, reals, imags, n, target, controls, Rule::X)
 }
@@ -52,7 +52,7 @@ pub fn y_apply(
     target: u32,
     controls: Controls,
 ) -> Answer
-    ensures { Does (into n (Gate.Y target controls) (before sr si) (before reals imags)) result (after reals imags) }
+    ensures { Does (into n (Gate.Y target controls) (shown sr si) (before reals imags)) result (after reals imags) }
 {
     on_pairs(sr, si, reals, imags, n, target, controls, Rule::Y)
 }
@@ -67,7 +67,7 @@ pub fn z_apply(
     target: u32,
     controls: Controls,
 ) -> Answer
-    ensures { Does (into n (Gate.Z target controls) (before sr si) (before reals imags)) result (after reals imags) }
+    ensures { Does (into n (Gate.Z target controls) (shown sr si) (before reals imags)) result (after reals imags) }
 {
     on_pairs(sr, si, reals, imags, n, target, controls, Rule::Z)
 }
@@ -83,7 +83,7 @@ pub fn p_apply(
     controls: Controls,
     angle: Angle,
 ) -> Answer
-    ensures { Does (into n (Gate.P target controls angle) (before sr si) (before reals imags)) result (after reals imags) }
+    ensures { Does (into n (Gate.P target controls angle) (shown sr si) (before reals imags)) result (after reals imags) }
 {
     on_pairs(sr, si, reals, imags, n, target, controls, Rule::P(angle))
 }
@@ -99,7 +99,7 @@ pub fn rx_apply(
     controls: Controls,
     angle: Angle,
 ) -> Answer
-    ensures { Does (into n (Gate.Rx target controls angle) (before sr si) (before reals imags)) result (after reals imags) }
+    ensures { Does (into n (Gate.Rx target controls angle) (shown sr si) (before reals imags)) result (after reals imags) }
 {
     on_pairs(sr, si, reals, imags, n, target, controls, Rule::Rx(angle))
 }
@@ -115,7 +115,7 @@ pub fn ry_apply(
     controls: Controls,
     angle: Angle,
 ) -> Answer
-    ensures { Does (into n (Gate.Ry target controls angle) (before sr si) (before reals imags)) result (after reals imags) }
+    ensures { Does (into n (Gate.Ry target controls angle) (shown sr si) (before reals imags)) result (after reals imags) }
 {
     on_pairs(sr, si, reals, imags, n, target, controls, Rule::Ry(angle))
 }
@@ -131,7 +131,7 @@ pub fn rz_apply(
     controls: Controls,
     angle: Angle,
 ) -> Answer
-    ensures { Does (into n (Gate.Rz target controls angle) (before sr si) (before reals imags)) result (after reals imags) }
+    ensures { Does (into n (Gate.Rz target controls angle) (shown sr si) (before reals imags)) result (after reals imags) }
 {
     on_pairs(sr, si, reals, imags, n, target, controls, Rule::Rz(angle))
 }
@@ -147,7 +147,7 @@ pub fn u_apply(
     controls: Controls,
     angles: Angles,
 ) -> Answer
-    ensures { Does (into n (Gate.U target controls angles) (before sr si) (before reals imags)) result (after reals imags) }
+    ensures { Does (into n (Gate.U target controls angles) (shown sr si) (before reals imags)) result (after reals imags) }
 {
     on_pairs(sr, si, reals, imags, n, target, controls, Rule::U(angles))
 }

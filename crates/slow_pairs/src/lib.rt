@@ -4,7 +4,7 @@
 ghost use Rattle.std.specs.Prelude.{◌≡◌};
 ghost use Rattle.book.specs.Answers.{outcome_of, Does};
 ghost use Rattle.book.specs.Gates.{angle_of, finite_tests};
-ghost use Rattle.book.specs.Lent.{before, after};
+ghost use Rattle.book.specs.Lent.{before, after, shown};
 ghost use Rattle.into.specs.Into.{into_tests};
 ghost use Rattle.seated.specs.Judging.{Judges};
 ghost use Rattle.slow_pairs.specs.Rows.{most_of, own_of, rule_call};
@@ -66,8 +66,8 @@ pub fn on_pairs(
     controls: Controls,
     rule: Rule,
 ) -> Answer
-    ensures { Does (outcome_of (into_tests n (before sr si) (before reals imags)) (before reals imags)
-        (rule_call rule n target controls (before sr si))) result (after reals imags) }
+    ensures { Does (outcome_of (into_tests n (shown sr si) (before reals imags)) (before reals imags)
+        (rule_call rule n target controls (shown sr si))) result (after reals imags) }
 {
     let sized = size(reals, imags, n);
     let seated = judging::seat(sr, si, n, target, controls, most(rule));

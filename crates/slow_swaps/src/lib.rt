@@ -3,7 +3,7 @@
 
 ghost use Rattle.std.specs.Prelude.{◌||◌, ◌≡◌, ℕ, leb};
 ghost use Rattle.book.specs.Answers.{Does};
-ghost use Rattle.book.specs.Lent.{before, after};
+ghost use Rattle.book.specs.Lent.{before, after, shown};
 ghost use Rattle.book.specs.declared.Gate.TheVariants as Gate;
 ghost use Rattle.into.specs.Into.{into};
 
@@ -29,7 +29,7 @@ pub fn swap_apply(
     t0: u32,
     t1: u32,
 ) -> Answer
-    ensures { Does (into n (Gate.Swap t0 t1) (before sr si) (before reals imags)) result (after reals imags) }
+    ensures { Does (into n (Gate.Swap t0 t1) (shown sr si) (before reals imags)) result (after reals imags) }
 {
     let sized = size(reals, imags, n);
     let answer = then(sized, free_seat(sr, si, n, higher(t0, t1)));
@@ -49,7 +49,7 @@ pub fn bit_flip_noise_apply(
     target: u32,
     noise: Noise,
 ) -> Answer
-    ensures { Does (into n (Gate.BitFlip target noise) (before sr si) (before reals imags)) result (after reals imags) }
+    ensures { Does (into n (Gate.BitFlip target noise) (shown sr si) (before reals imags)) result (after reals imags) }
 {
     let sized = size(reals, imags, n);
     let seated = free_seat(sr, si, n, target);

@@ -4,7 +4,7 @@
 
 ghost use Rattle.std.specs.Prelude.{◌≡◌, ◌+◌};
 ghost use Rattle.book.specs.Gates.{nought};
-ghost use Rattle.book.specs.Lent.{before, after, here};
+ghost use Rattle.book.specs.Lent.{before, after, here, shown, shown_here};
 ghost use Rattle.book.specs.Matrices.{add_product};
 ghost use Rattle.book.specs.State.{amplitude, at};
 ghost use Rattle.matrices.specs.Filled.{Holds, Filled};
@@ -12,8 +12,8 @@ ghost use Rattle.matrices.specs.Filled.{Holds, Filled};
 use book::Amplitude;
 
 pub fn read_at(reals: &[f64], imags: &[f64], i: usize) -> Amplitude
-    requires { Holds (i + 1) (here reals imags) }
-    ensures { result ≡ at (before reals imags) i }
+    requires { Holds (i + 1) (shown_here reals imags) }
+    ensures { result ≡ at (shown reals imags) i }
 {
     Amplitude {
         re: reals[i],

@@ -5,7 +5,7 @@
 ghost use Rattle.std.specs.Prelude.{◌++◌};
 ghost use Rattle.book.specs.Answers.{Does};
 ghost use Rattle.book.specs.Gates.{finite_tests};
-ghost use Rattle.book.specs.Lent.{before, after};
+ghost use Rattle.book.specs.Lent.{before, after, shown};
 ghost use Rattle.book.specs.Matrices.{entries, numbers_of, matrix_tests, gate_matrix, conjugate_transpose};
 ghost use Rattle.seated.specs.Judging.{Judges, free_tests};
 
@@ -17,7 +17,7 @@ use transposes::turn_all;
 
 // Tests 1 to 3 of a gate's matrix.
 fn seat(reals: &[f64], imags: &[f64], n: u32, target: u32) -> Answer
-    ensures { Judges (matrix_tests (entries n) n (before reals imags) ++ free_tests n target) result }
+    ensures { Judges (matrix_tests (entries n) n (shown reals imags) ++ free_tests n target) result }
 {
     if bad_size(n) {
         return Answer::Refused(Refusal::Size);

@@ -1,0 +1,15 @@
+-- `collapses::clear_part` meets its contract: one place more in each turn. Assumes nothing.
+use Prim.Native.Nat.{◌-◌, ◌≤◌}
+use native.Mathlib.Omega.{arith}
+use borrow.Author.Rules.{rules}
+use Rattle.book.specs.Answers.{buffers}
+use Rattle.collapses.specs.Halves.{cleared, Remade}
+use Rattle.collapses.proofs.Stretches.{none, one_more, done}
+use Rattle.book.proofs.Zero.{zero_is}
+use Rattle.collapses.proofs.clear_part.Given as goal
+
+abbrev pub invariant-loop-i : goal.invariant-loop-i
+invariant-loop-i l = (l.from ≤ l.i) × (l.i ≤ l.to) × Remade (λ k. cleared) l.from l.i (buffers l.initial.reals l.initial.imags) (buffers l.reals l.imags)
+
+abbrev pub decreases-loop-i : goal.decreases-loop-i
+decreases-loop-i l = l.to - l.i

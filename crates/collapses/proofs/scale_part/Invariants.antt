@@ -1,0 +1,15 @@
+-- `collapses::scale_part` meets its contract: one place more in each turn. Assumes nothing.
+use Prim.Native.Nat.{◌-◌, ◌≤◌}
+use mathlib.Core.Path.{refl}
+use native.Mathlib.Omega.{arith}
+use borrow.Author.Rules.{rules}
+use Rattle.book.specs.Answers.{buffers}
+use Rattle.collapses.specs.Halves.{scaled, Remade}
+use Rattle.collapses.proofs.Stretches.{none, one_more, done}
+use Rattle.collapses.proofs.scale_part.Given as goal
+
+abbrev pub invariant-loop-i : goal.invariant-loop-i
+invariant-loop-i l = (l.from ≤ l.i) × (l.i ≤ l.to) × Remade (λ k. scaled l.r) l.from l.i (buffers l.initial.reals l.initial.imags) (buffers l.reals l.imags)
+
+abbrev pub decreases-loop-i : goal.decreases-loop-i
+decreases-loop-i l = l.to - l.i

@@ -1,9 +1,0 @@
--- `operands::is_zero` meets its contract: both zeros equal 0.0, and nothing else does. Assumes nothing.
-use mathlib.Core.Path.{ap, ◌∙◌}
-use lib.Ieee.{eq}
-use Rattle.operands.proofs.Floats.{zero_is, zero_test_is}
-use Rattle.operands.proofs.is_zero.Statement.{statement}
-use Rattle.operands.proofs.is_zero.Tie as tie
-
-pub is_zero_spec : {M : Type 1} → statement M
-is_zero_spec = tie.close (tie.spec (λ c. ap (eq c.args.x) zero_is ∙ zero_test_is c.args.x))

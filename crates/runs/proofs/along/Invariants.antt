@@ -1,0 +1,15 @@
+-- `runs::along` meets its contract, by the walk of one pair at a turn. Assumes nothing.
+use Prim.Native.Nat.{◌+◌, ◌-◌, ◌^◌, ◌<◌}
+use native.Mathlib.Omega.{arith}
+use borrow.Author.Rules.{rules}
+use Rattle.book.specs.Answers.{buffers}
+use Rattle.rules.specs.Rules.{quick_of}
+use Rattle.pairs.proofs.Buffers.{stepped}
+use Rattle.pairs.proofs.Spaced.{Walk, walk_starts, walk_ends, one_room, one_asks, one_steps}
+use Rattle.runs.proofs.along.Given as goal
+
+abbrev pub invariant-loop-i : goal.invariant-loop-i
+invariant-loop-i l = Walk (quick_of l.rule l.angle) l.run l.d l.stride l.stride (buffers l.initial.reals l.initial.imags) l.i (buffers l.reals l.imags)
+
+abbrev pub decreases-loop-i : goal.decreases-loop-i
+decreases-loop-i l = l.run - l.i

@@ -1,0 +1,29 @@
+-- `short::all_modest` meets its contract. Assumes nothing.
+use mathlib.Core.Path.{sym}
+use mathlib.Core.Bool.{true≢false}
+use native.Mathlib.Omega.{arith}
+use borrow.Author.Rules.{rules}
+use borrow.Author.Tests.{eqb-true}
+use lib.Ieee.{binary64}
+use Rattle.short.proofs.Tests.{number, sum_numbers}
+use Rattle.short.proofs.all_modest.Goals as goal
+
+pub apart-requires : goal.apart-requires
+apart-requires c = (sum_numbers binary64 _ _ (sum_numbers binary64 _ _ (number _ c.if-w.false)).0).0
+
+pub apart-requires-2 : goal.apart-requires-2
+apart-requires-2 c = (sum_numbers binary64 _ _ (sum_numbers binary64 _ _ (number _ c.if-w.false)).1).0
+
+pub apart-requires-3 : goal.apart-requires-3
+apart-requires-3 c = (sum_numbers binary64 _ _ (sum_numbers binary64 _ _ (number _ c.if-w.false)).0).1
+
+pub apart-requires-4 : goal.apart-requires-4
+apart-requires-4 c = (sum_numbers binary64 _ _ (sum_numbers binary64 _ _ (number _ c.if-w.false)).1).1
+
+pub returns : goal.returns
+returns c = (λ c h. (
+      c.apart.ensures.modest (omega (arith, eqb-true)),
+      c.apart-2.ensures.modest (omega (arith, eqb-true)),
+      c.apart-3.ensures.modest (omega (arith, eqb-true)),
+      c.apart-4.ensures.modest (omega (arith, eqb-true)),
+    )) c

@@ -1,0 +1,15 @@
+-- `short::are_fit` meets its contract. Assumes nothing.
+use mathlib.Core.Path.{sym}
+use mathlib.Core.Bool.{true≢false}
+use native.Mathlib.Omega.{arith}
+use borrow.Author.Rules.{rules}
+use borrow.Author.Tests.{eqb-true}
+use lib.Ieee.{binary64}
+use Rattle.short.proofs.Tests.{number, sum_numbers}
+use Rattle.short.proofs.are_fit.Goals as goal
+
+pub apart-requires : goal.apart-requires
+apart-requires c = (sum_numbers binary64 _ _ (number _ c.if-w.false)).0
+
+pub apart-requires-2 : goal.apart-requires-2
+apart-requires-2 c = (sum_numbers binary64 _ _ (number _ c.if-w.false)).1

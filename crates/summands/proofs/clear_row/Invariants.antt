@@ -1,0 +1,18 @@
+-- `summands::clear_row` meets its contract: one place more is filled in each turn. Assumes nothing.
+use Prim.Native.Nat.{◌-◌, ◌≤◌}
+use mathlib.Core.Path.{refl}
+use borrow.Author.Rules.{rules}
+use native.Mathlib.Omega.{arith}
+use Rattle.book.specs.Answers.{buffers}
+use Rattle.book.specs.Gates.{nought}
+use Rattle.book.specs.State.{amplitude}
+use Rattle.matrices.specs.Filled.{Filled}
+use Rattle.matrices.proofs.Fills.{zero_is}
+use Rattle.matrices.proofs.Fills.{nothing, one_more, done}
+use Rattle.summands.proofs.clear_row.Given as goal
+
+abbrev pub invariant-loop-j : goal.invariant-loop-j
+invariant-loop-j l = (l.j ≤ l.side) × Filled l.from l.j (λ k. amplitude nought nought) (buffers l.initial.reals l.initial.imags) (buffers l.reals l.imags)
+
+abbrev pub decreases-loop-j : goal.decreases-loop-j
+decreases-loop-j l = l.side - l.j

@@ -1,0 +1,26 @@
+-- `words::add` stores byte after byte: what is left to store, stored, gives the whole. Assumes nothing.
+use Prim.Native.Nat.{◌+◌, ◌-◌, ◌≤◌}
+use native.Mathlib.Omega.{arith}
+use mathlib.Core.Path.{◌≡◌, sym, ◌∙◌}
+use lib.ListN.{length, drop, length-set}
+use Rattle.stores.specs.Stores.{store}
+use Rattle.words.proofs.Writing.{stored_none, stored_all, stored_step}
+use borrow.Author.Rules.{rules}
+use Rattle.words.proofs.add.Goals as goal
+
+pub loop-i-preserved : goal.loop-i-preserved
+loop-i-preserved c = let a = c.args in
+    let o = c.loop-i in (
+      omega arith,
+      length-set o.out (a.at + o.i) _ ∙ o.invariant.1,
+      stored_step a.words.now a.at o.out o.i (omega arith) ∙ o.invariant.2,
+    )
+
+pub returns : goal.returns
+returns c = let a = c.args in
+    let o = c.loop-i in
+    record {
+      behind = search rules;
+      most = omega arith;
+      stored = sym (stored_none a.words.now a.at o.out o.i (omega arith)) ∙ o.invariant.2;
+    }
