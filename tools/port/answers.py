@@ -480,7 +480,7 @@ def main():
         write(crate, f, g, only=())
     said = run("rt", "check", where=where)
     open(f"/tmp/port-names/{crate}/first.txt", "w").write(said)
-    open_goals = {}
+    open_goals = {f: list(g[4]) for f, g in got.items()} if "--all" in sys.argv else {}
     for m in re.finditer(r"^fn (\S+?): (.*)$", said, re.M):
         if "did not prove" in m[2]:
             f = m[1].split("::", 1)[1].replace("::", "/")
