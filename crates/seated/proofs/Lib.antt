@@ -1,4 +1,5 @@
--- Shifts: the code's `1 << n`. Judged: a call after its judge. Seats: what holds of a call that was let pass.
+-- Shifts: the code's `1 << n`. Judged: a call after its judge. Seats: what holds of a call that was let pass. Others: answers that are not Taken.
 pub mod Shifts
 pub mod Judged
 pub mod Seats
+pub mod Others

@@ -6,12 +6,9 @@ use mathlib.Core.Option.{none}
 use mathlib.Core.Path.{◌≡◌, refl, sym, ap, ◌∙◌, subst}
 use native.Mathlib.Nat.{lt_of_lt_of_le}
 use borrow.Author.Tests.{le-leb, lt-leb, leb-false}
-use denote.Enum.Declared.{tag_of}
 use mir.Syntax.{w64}
 use mir.Val.{Fits}
-use types.Run.{OneOf}
 use lib.Dec.{leb}
-use Rattle.book.specs.contracts.Answer as Cases
 use Rattle.book.proofs.Refusals.{clear, right_lengths}
 use Rattle.book.specs.Answers.{says, ◌⇒◌, first, Buffers, Call, call, Does}
 use Rattle.book.specs.Gates.{finite_tests}
@@ -22,6 +19,7 @@ use Rattle.book.specs.declared.Answer.TheVariants.{Taken, Refused}
 use Rattle.book.specs.declared.Matrix.{Matrix}
 use Rattle.book.specs.declared.Refusal.TheVariants.{Size, Length, Qubit}
 use Rattle.seated.proofs.Judged.{passed, judged_then, keeps, works}
+use Rattle.seated.proofs.Others.{others}
 use Rattle.seated.specs.Judging.{Judges, first_of, free_tests}
 use Rattle.matrices.proofs.Fills.{whole}
 use Rattle.matrices.proofs.Judged.{most_is, shift_fits, held_places, wrong_size, wrong_length, right}
@@ -101,7 +99,10 @@ module _ (m : Matrix) (n target : ℕ) (b : Buffers) where
   abbrev pub work : Call
   work = call (leb n target ⇒ 3 ∷ finite_tests (numbers_of m)) none (held_dense n (crossing m target))
 
-  pub gate_judged : {s o r : Answer} → Judges (matrix_tests (entries n) n b ++ free_tests n target) s → Judges (finite_tests (numbers_of m)) o → r ≡ first_of s o
+  pub gate_judged : {s o r : Answer} →
+  Judges (matrix_tests (entries n) n b ++ free_tests n target) s →
+  Judges (finite_tests (numbers_of m)) o →
+  r ≡ first_of s o
       → Judges (matrix_tests (entries n) n b ++ work.tests) r
   unfolding matrix_tests
   gate_judged p q e =
@@ -109,8 +110,8 @@ module _ (m : Matrix) (n target : ℕ) (b : Buffers) where
       (judged_then (matrix_tests (entries n) n b ++ free_tests n target) (finite_tests (numbers_of m)) tt p q)
 
   module _ {r : Answer} (j : Judges (matrix_tests (entries n) n b ++ work.tests) r) where
-    pub gate_kept : OneOf (1 ∷ 2 ∷ []) (tag_of Cases.the_type r) → Does (gate_matrix m n target b) r b
-    gate_kept h = keeps (matrix_tests (entries n) n b) b work j h
+    pub gate_kept : (r ≡ Taken → ⊥) → Does (gate_matrix m n target b) r b
+    gate_kept h = keeps (matrix_tests (entries n) n b) b work j (others r h)
 
     module _ (told : r ≡ Taken) where
       clear_tests : (bad_size most_matrix n ≡ false) × (bad_length (entries n) b ≡ false) × (target < n)
