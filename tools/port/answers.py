@@ -122,8 +122,6 @@ def path_map(fn, place):
     for a in arms:
         name = a[0]
         for new, old, rest in a[2]:
-            if old == "match" and not rest:
-                continue
             rules.append((norm(old), rest, f"{name}.{new}"))
     rules.sort(key=lambda r: -len(r[1]))
     return m, rules
