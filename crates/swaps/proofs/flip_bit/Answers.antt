@@ -23,4 +23,4 @@ returns-in-Taken c = let judged : (F.Judged c.args.n c.args.target c.args.noise 
 
 pub returns : goal.returns
 returns c = let judged : (F.Judged c.args.n c.args.target c.args.noise (here c.args.reals c.args.imags) c.then-answer.result) = F.flip_judged c.free_seat-seat.ensures c.numbers.ensures c.then-answer.ensures in
-    F.flip_kept judged c.in_default.in_default-own.keys2
+    F.flip_kept judged c.in_default.not-Taken
