@@ -122,8 +122,6 @@ def path_map(fn, place):
     for a in arms:
         name = a[0]
         for new, old, rest in a[2]:
-            if old == "match" and not rest:
-                continue
             rules.append((norm(old), rest, f"{name}.{new}"))
     rules.sort(key=lambda r: -len(r[1]))
     return m, rules
@@ -398,6 +396,7 @@ def convert(crate, names, folder):
             body = re.sub(r"\(" + re.escape(h) + r" c\)", h, body)
             body = re.sub(r"(?<![\w.'-])" + re.escape(h) + r" c(?![\w'.-])", h, body)
         body = fields(flat(body, projections), fn, place)
+        body = re.sub(r"in_default\.in_default-own\.keys\d", "in_default.not-Taken", body)
         out[new] = (extra, body.strip())
     plain = [v[1] for h, v in helpers.items() if v[0] == "plain"]
     uses = [u for u in uses if not re.search(r"\.(Statement|Tie)\b", u)]

@@ -19,7 +19,6 @@ use Rattle.book.specs.declared.Answer.TheVariants.{Taken, Refused}
 use Rattle.book.specs.declared.Matrix.{Matrix}
 use Rattle.book.specs.declared.Refusal.TheVariants.{Size, Length, Qubit}
 use Rattle.seated.proofs.Judged.{passed, judged_then, keeps, works}
-use Rattle.seated.proofs.Others.{others}
 use Rattle.seated.specs.Judging.{Judges, first_of, free_tests}
 use Rattle.matrices.proofs.Fills.{whole}
 use Rattle.matrices.proofs.Judged.{most_is, shift_fits, held_places, wrong_size, wrong_length, right}
@@ -111,7 +110,7 @@ module _ (m : Matrix) (n target : ℕ) (b : Buffers) where
 
   module _ {r : Answer} (j : Judges (matrix_tests (entries n) n b ++ work.tests) r) where
     pub gate_kept : (r ≡ Taken → ⊥) → Does (gate_matrix m n target b) r b
-    gate_kept h = keeps (matrix_tests (entries n) n b) b work j (others r h)
+    gate_kept h = keeps (matrix_tests (entries n) n b) b work j h
 
     module _ (told : r ≡ Taken) where
       clear_tests : (bad_size most_matrix n ≡ false) × (bad_length (entries n) b ≡ false) × (target < n)
