@@ -1,5 +1,5 @@
 #!/usr/bin/env python3
-"""tools/port/wrap.py CRATE..: breaks the lines over 160 characters in the crates' proofs: behind a definition's `=` and a `let`'s, before a `×`, at arguments."""
+"""tools/port/wrap.py CRATE..: breaks the lines over 160 characters in the crates' answers and invariants: behind a definition's `=` and a `let`'s, before a `×`, at arguments."""
 import os
 import sys
 
@@ -50,10 +50,8 @@ def broken(line):
 def main():
     for crate in sys.argv[1:]:
         for folder, _, files in os.walk(os.path.join(TOP, "crates", crate, "proofs")):
-            for f in files:
+            for f in set(files) & {"Answers.antt", "Invariants.antt"}:
                 p = os.path.join(folder, f)
-                if not f.endswith(".antt"):
-                    continue
                 text = open(p).read()
                 new = "\n".join(x for l in text.split("\n") for x in broken(l))
                 if new != text:

@@ -98,11 +98,8 @@ module _ (m : Matrix) (n target : ℕ) (b : Buffers) where
   abbrev pub work : Call
   work = call (leb n target ⇒ 3 ∷ finite_tests (numbers_of m)) none (held_dense n (crossing m target))
 
-  pub gate_judged : {s o r : Answer} →
-  Judges (matrix_tests (entries n) n b ++ free_tests n target) s →
-  Judges (finite_tests (numbers_of m)) o →
-  r ≡ first_of s o
-      → Judges (matrix_tests (entries n) n b ++ work.tests) r
+  pub gate_judged : {s o r : Answer} → Judges (matrix_tests (entries n) n b ++ free_tests n target) s → Judges (finite_tests (numbers_of m)) o
+      → r ≡ first_of s o → Judges (matrix_tests (entries n) n b ++ work.tests) r
   unfolding matrix_tests
   gate_judged p q e =
       subst (λ (x : Answer). Judges (matrix_tests (entries n) n b ++ work.tests) x) (sym e)

@@ -1,8 +1,7 @@
 -- `unitaries::conj_t` meets its contract: its two tests in order, and then the loop. Assumes nothing.
 use mathlib.Core.Path.{sym, ◌∙◌}
-use borrow.Author.Rules.{rules}
-use Rattle.matrices.proofs.Judged.{most_is, shift_fits, held_places}
-use Rattle.matrices.proofs.Sides.{side_le, square_fits}
+use Rattle.matrices.proofs.Judged.{most_is, held_places}
+use Rattle.matrices.proofs.Sides.{side_le}
 use Rattle.unitaries.proofs.Judged.{transpose_size, transpose_long, turned_filled}
 use Rattle.unitaries.proofs.conj_t.Goals as goal
 
@@ -14,9 +13,9 @@ returns-then-bad_length c = transpose_long _ _ (sym c.bad_size.ensures ∙ c.if-
 
 pub turn_all-requires : goal.turn_all-requires
 turn_all-requires c = (
-      side_le _ (most_is _ (sym c.bad_size.ensures ∙ c.if-bad_size.false)),
-      held_places _ _ (sym c.bad_length.ensures ∙ c.if-bad_length.false),
-    )
+  side_le _ (most_is _ (sym c.bad_size.ensures ∙ c.if-bad_size.false)),
+  held_places _ _ (sym c.bad_length.ensures ∙ c.if-bad_length.false),
+)
 
 pub returns : goal.returns
 returns c = turned_filled _ _ (sym c.bad_size.ensures ∙ c.if-bad_size.false) _ (sym c.bad_length.ensures ∙ c.if-bad_length.false)

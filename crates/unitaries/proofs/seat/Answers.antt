@@ -1,6 +1,5 @@
 -- `unitaries::seat` meets its contract: each return cites the refusal that its test gives, and that those before it were passed. Assumes nothing.
-use borrow.Author.Rules.{rules}
-use Rattle.unitaries.proofs.Judged.{shift_small, square_small, seats}
+use Rattle.unitaries.proofs.Judged.{seats}
 use Rattle.unitaries.proofs.seat.Goals as goal
 
 pub returns-then-bad_size : goal.returns-then-bad_size
