@@ -1,7 +1,5 @@
 -- `forms::by_runs` meets its contract: the fixed bits are cut, and each form goes over the pairs of all keys. Assumes nothing.
 use mathlib.Core.Path.{refl}
-use native.Mathlib.Omega.{arith}
-use borrow.Author.Rules.{rules}
 use Rattle.pairs.proofs.Whole as W
 use Rattle.forms.proofs.by_runs.Goals as goal
 

@@ -22,8 +22,8 @@ apart-requires-4 c = (sum_numbers binary64 _ _ (sum_numbers binary64 _ _ (number
 
 pub returns : goal.returns
 returns c = (λ c h. (
-      c.apart.ensures.modest (omega (arith, eqb-true)),
-      c.apart-2.ensures.modest (omega (arith, eqb-true)),
-      c.apart-3.ensures.modest (omega (arith, eqb-true)),
-      c.apart-4.ensures.modest (omega (arith, eqb-true)),
-    )) c
+  c.apart.ensures.modest (omega (arith, eqb-true)),
+  c.apart-2.ensures.modest (omega (arith, eqb-true)),
+  c.apart-3.ensures.modest (omega (arith, eqb-true)),
+  c.apart-4.ensures.modest (omega (arith, eqb-true)),
+)) c
