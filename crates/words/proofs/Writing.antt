@@ -116,7 +116,8 @@ decimal_is k n h q = fewest 20 k n h q
 
 -- ---- hex digits
 
-pub bits_is : (x : Float) {n : ℕ} {l l₁ : List ℕ} {at at₁ : ℕ} → n ≡ to_bits binary64 x → Added (last_digits 16 16 n) 16 l at at₁ l₁ → Added (bits x) 16 l at at₁ l₁
+pub bits_is : (x : Float) {n : ℕ} {l l₁ : List ℕ} {at at₁ : ℕ} → n ≡ to_bits binary64 x
+    → Added (last_digits 16 16 n) 16 l at at₁ l₁ → Added (bits x) 16 l at at₁ l₁
 unfolding bits
 bits_is x e p = rw (← e) p
 

@@ -6,7 +6,9 @@ use Rattle.stores.specs.Stores.{store}
 use Rattle.words.proofs.add.Given as goal
 
 abbrev pub invariant-loop-i : goal.invariant-loop-i
-invariant-loop-i l = (l.i ≤ length l.words) × (length l.out ≡ length l.initial.out) × (store l.out (l.at + l.i) (drop l.i l.words) ≡ store l.initial.out l.at l.words)
+invariant-loop-i l =
+    (l.i ≤ length l.words) × (length l.out ≡ length l.initial.out)
+    × (store l.out (l.at + l.i) (drop l.i l.words) ≡ store l.initial.out l.at l.words)
 
 abbrev pub decreases-loop-i : goal.decreases-loop-i
 decreases-loop-i l = length l.words - l.i
