@@ -122,8 +122,6 @@ def path_map(fn, place):
     for a in arms:
         name = a[0]
         for new, old, rest in a[2]:
-            if old == "match" and not rest:
-                continue
             rules.append((norm(old), rest, f"{name}.{new}"))
     rules.sort(key=lambda r: -len(r[1]))
     return m, rules
@@ -355,11 +353,14 @@ def convert(crate, names, folder):
                 body = f"λ {' '.join(v for v in var[1:] if v != 'κs')}. " * bool([v for v in var[1:] if v != "κs"]) + body
             var = var[0] if var else "c"
         else:
-            m = re.match(r"\(λ (\S+?)(?: κs)?\.\s*(.*)\)$", it, re.S)
+            m = re.match(r"\(λ (\S+?)((?: [^\s.]+)*)\.\s*(.*)\)$", it, re.S)
             if m:
-                var, body = m[1], m[2]
+                more = [v for v in m[2].split() if v != "κs"]
+                var, body = m[1], (f"λ {' '.join(more)}. " if more else "") + m[3]
             else:
                 var, body = "c", f"{it} c"
+            u = re.search(r"^unfolding .*$", spec, re.M)
+            extra = u[0] + "\n" if u else ""
         if re.fullmatch(r"\s*search rules\s*", body):
             continue
         if var != "c":
@@ -477,7 +478,7 @@ def main():
         write(crate, f, g, only=())
     said = run("rt", "check", where=where)
     open(f"/tmp/port-names/{crate}/first.txt", "w").write(said)
-    open_goals = {}
+    open_goals = {f: list(g[4]) for f, g in got.items()} if "--all" in sys.argv else {}
     for m in re.finditer(r"^fn (\S+?): (.*)$", said, re.M):
         if "did not prove" in m[2]:
             f = m[1].split("::", 1)[1].replace("::", "/")
