@@ -34,4 +34,4 @@ returns-else-rule-le-RY c = let judged : (let a = c.args in G.Judged (most_of a.
 
 pub returns-in_default : goal.returns-in_default
 returns-in_default c = let judged : (let a = c.args in G.Judged (most_of a.rule) (own_of a.rule a.angle a.angles) a.n a.target a.controls (here a.reals a.imags) c.then-answer.result) = G.gate_judged (rw c.most.ensures at c.seat-seat.ensures) c.own.ensures c.then-answer.ensures in
-    let a = c.args in G.gate_kept judged (rule_of a.rule a.angle a.angles) c.in_default.in_default-own.keys2
+    let a = c.args in G.gate_kept judged (rule_of a.rule a.angle a.angles) c.in_default.not-Taken
