@@ -396,7 +396,7 @@ def convert(crate, names, folder):
             body = re.sub(r"\(" + re.escape(h) + r" c\)", h, body)
             body = re.sub(r"(?<![\w.'-])" + re.escape(h) + r" c(?![\w'.-])", h, body)
         body = fields(flat(body, projections), fn, place)
-        body = re.sub(r"in_default\.in_default-own\.keys\d", "in_default.not-Taken", body)
+        body = re.sub(r"(in_default[\w-]*)\.\1-own\.keys\d", r"\1.not-Taken", body)
         out[new] = (extra, body.strip())
     plain = [v[1] for h, v in helpers.items() if v[0] == "plain"]
     uses = [u for u in uses if not re.search(r"\.(Statement|Tie)\b", u)]

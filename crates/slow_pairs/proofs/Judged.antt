@@ -1,6 +1,6 @@
 -- A gate that has a rule, judged: its own tests behind its seat's, what the engine asks, and what its answer then does. Assumes nothing.
 use Prim.Native.Nat.{ℕ, ◌^◌}
-use mathlib.Core.List.{[], ◌∷◌, ◌++◌}
+use mathlib.Core.List.{◌++◌}
 use mathlib.Core.Path.{◌≡◌, ap}
 use lib.Dec.{T}
 use Rattle.book.proofs.Refusals.{numbered}

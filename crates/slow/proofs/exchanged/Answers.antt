@@ -1,6 +1,5 @@
 -- `slow::exchanged` meets its contract: a bit times its power is below 2 ^ 24, so nothing is lost. Assumes nothing.
 use native.Mathlib.Omega.{arith}
-use borrow.Author.Rules.{rules}
 use Rattle.slow.proofs.Reach.{Moves, moves}
 use Rattle.slow.proofs.exchanged.Goals as goal
 

@@ -1,10 +1,7 @@
 -- `slow::place_of_pair` meets its contract: by the three cases of a place. Assumes nothing.
 use mathlib.Core.Path.{sym, ◌∙◌}
-use native.Mathlib.Omega.{arith}
-use borrow.Author.Rules.{rules}
-use Rattle.book.proofs.Bits.{bit_le}
 use Rattle.book.proofs.Places.{placed_neither}
-use Rattle.slow.proofs.Reach.{above, below, power, room, not_chosen, set, lower_place, upper_place}
+use Rattle.slow.proofs.Reach.{above, power, not_chosen, set, lower_place, upper_place}
 use Rattle.slow.proofs.place_of_pair.Goals as goal
 
 pub returns-then-i-ones : goal.returns-then-i-ones
@@ -18,3 +15,6 @@ returns-then-i-target-eq0 c = lower_place _ _ c.args.controls _ _ c.if-i-ones.fa
 pub returns : goal.returns
 returns c = upper_place _ _ c.args.controls _ _ c.if-i-ones.false (power c.requires) (set _ _ c.if-i-target-eq0.false)
     c.amplitude_at-2.ensures c.amplitude_at-own.ensures c.put-both-2.ensures
+
+pub amplitude_at-requires : goal.amplitude_at-requires
+amplitude_at-requires c = let r = c.requires in rw (power r) (above r c.if-i-target-eq0.true)

@@ -1,11 +1,6 @@
 -- `uppers::on_uppers` meets its contract: judged, then turned block by block. Assumes nothing.
-use mathlib.Core.Path.{◌≡◌}
-use borrow.Author.Rules.{rules}
-use Rattle.book.specs.Answers.{Buffers, Does}
 use Rattle.book.specs.Lent.{here}
-use Rattle.book.specs.State.{on_pairs}
-use Rattle.book.specs.declared.Answer.TheVariants.{Taken}
-use Rattle.fed.specs.Named.{upper_rule, upper_most, upper_own, upper_gate}
+use Rattle.fed.specs.Named.{upper_rule, upper_most, upper_own}
 use Rattle.pairs.proofs.Gate as G
 use Rattle.uppers.proofs.on_uppers.Goals as goal
 
@@ -19,8 +14,7 @@ turn-requires-in_default-upper c = let judged : (let a = c.args in G.Judged (upp
 
 pub returns-in_default-upper : goal.returns-in_default-upper
 returns-in_default-upper c = let judged : (let a = c.args in G.Judged (upper_most a.upper) (upper_own a.upper a.angle) a.n a.target a.controls (here a.reals a.imags) c.then-answer.result) = G.gate_judged (rw c.most_of_upper.ensures at c.seat-seat.ensures) c.own_of_upper.ensures c.then-answer.ensures in
-    let done : (c.then-answer.result ≡ Taken → {b' : Buffers} → let a = c.args in let b = here a.reals a.imags in b' ≡ on_pairs (upper_rule a.upper a.angle) a.n a.target a.controls b → Does (upper_gate a.upper a.angle a.n a.target a.controls b) c.then-answer.result b') = λ e h. G.gate_done judged e (upper_rule c.args.upper c.args.angle) h in
-    done c.in-Taken.is c.turn-in_default-upper.ensures
+    G.gate_done judged c.in-Taken.is (upper_rule c.args.upper c.args.angle) c.turn-in_default-upper.ensures
 
 pub returns-in_default : goal.returns-in_default
 returns-in_default c = let judged : (let a = c.args in G.Judged (upper_most a.upper) (upper_own a.upper a.angle) a.n a.target a.controls (here a.reals a.imags) c.then-answer.result) = G.gate_judged (rw c.most_of_upper.ensures at c.seat-seat.ensures) c.own_of_upper.ensures c.then-answer.ensures in

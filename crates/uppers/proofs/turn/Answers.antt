@@ -1,9 +1,8 @@
 -- `uppers::turn` meets its contract: the places that the fixed bits choose are those that the controls choose. Assumes nothing.
-use borrow.Author.Rules.{rules}
 use Rattle.fed.proofs.Numbers.{leaves_s0}
 use Rattle.fed.specs.Named.{upper_rule, upper_of}
 use Rattle.pairs.proofs.Halves.{uppers_gate}
-use Rattle.uppers.proofs.Skips.{blocked, chosen_picked}
+use Rattle.uppers.proofs.Skips.{chosen_picked}
 use Rattle.uppers.proofs.turn.Goals as goal
 
 pub returns-then-upper-eq-Z : goal.returns-then-upper-eq-Z
