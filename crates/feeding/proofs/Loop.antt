@@ -73,7 +73,7 @@ module _ {f f' : Form} {b b' : Buffers} {bs : List ℕ} {n : ℕ} {t : List Answ
   pub uses : 0 < length bs → 0 < n
   uses some = omega (arith, h.used, step_uses (rest_in f) bs settled some)
 
-  within : n ≤ length bs
+  pub within : n ≤ length bs
   within = omega (arith, h.used, step_within (rest_in f) bs)
 
   run_is : (ds : List (List ℕ)) → deliver_all (bench f'.session b') ds ≡ deliver_all (bench f.session b) (list_of first.due ++ ds)

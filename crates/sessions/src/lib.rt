@@ -3,7 +3,7 @@
 
 ghost use Rattle.std.specs.Prelude.{◌≡◌};
 ghost use Rattle.book.specs.Answers.{replies, or_denied};
-ghost use Rattle.book.specs.Lent.{before, after};
+ghost use Rattle.book.specs.Lent.{before, after, shown};
 ghost use Rattle.book.specs.Sessions.{deliver};
 ghost use Rattle.book.specs.Sessions as Book;
 ghost use Rattle.once.specs.AllOnce.{cut, AllOnce};
@@ -86,7 +86,7 @@ impl Session {
 
     // A record that is not run: 1 and 2 come before its reply.
     fn passed(self, reply: Reply, reals: &[f64], imags: &[f64]) -> Delivered
-        ensures { Delivers (unsized (meant self) (before reals imags) (replies reply)) result (before reals imags) }
+        ensures { Delivers (unsized (meant self) (shown reals imags) (replies reply)) result (shown reals imags) }
     {
         let size = judging::size(reals, imags, self.n);
         let value = self.value;

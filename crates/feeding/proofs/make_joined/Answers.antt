@@ -5,12 +5,10 @@ use mathlib.Core.List.{List, ◌++◌}
 use mathlib.Core.Path.{◌≡◌, ap, ◌∙◌}
 use lib.ListN.{length, take, drop, length-append, length-drop}
 use lib.Seq.{take_at, drop-append-le}
-use borrow.Author.Rules.{rules}
 use Rattle.stores.proofs.Stored.{store_then, store_first}
 use Rattle.words.specs.Words.{Added}
 use Rattle.feeding.specs.Feeding.{Joins}
-use Rattle.feeding.proofs.make_joined.Statement.{statement}
-use Rattle.feeding.proofs.make_joined.Tie as tie
+use Rattle.feeding.proofs.make_joined.Goals as goal
 
 joined : (zeros first last frame frame₂ : List ℕ) {have end j k : ℕ} → Joins first last → length zeros ≡ 97
     → Added first j zeros 0 have frame → Added last k frame have end frame₂ → take (end - 3) (drop 3 frame₂) ≡ drop 3 (first ++ last)
@@ -23,30 +21,7 @@ joined zeros first last frame frame₂ {have} {end} fits size p q =
     ∙ ap (take (end - 3)) (drop-append-le 3 all (drop (length all) zeros) (omega (arith, fits.least)))
     ∙ take_at (drop 3 all) (drop (length all) zeros) (end - 3) (omega (arith, length-drop 3 all, p.behind, q.behind))
 
-returns : tie.Need-returns
-returns c =
-    let made = c.before.before.before.before in
-    let lent = made.before.before.before in
-    let second = lent.before.before.before in
-    let first = second.before.before.before in
-    let known = first.before.before.before in
-    let start = known.before.before.before in
-    let a = start.args in
-    let same = joined _ a.first.now a.last.now _ _ start.requires (omega arith) first.add.ensures second.add2.ensures in
-    rw (← same) made.make.ensures
-
-pub make_joined_spec : {M : Type 1} → statement M
-make_joined_spec =
-    tie.close
-    (tie.spec
-    (λ c. search rules)
-    (λ c κs. search rules)
-    (λ c. search rules)
-    (λ c κs. search rules)
-    (λ c. search rules)
-    (λ c. search rules)
-    (λ c. search rules)
-    (λ c κs. search rules)
-    (λ c. search rules)
-    (λ c. search rules)
-    returns)
+pub returns : goal.returns
+returns c = let a = c.args in
+    let same = joined _ a.first.now a.last.now _ _ c.requires (omega arith) c.add-have.ensures c.add-end.ensures in
+    rw (← same) c.make.ensures
