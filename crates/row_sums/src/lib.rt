@@ -47,7 +47,8 @@ fn fill_row(
     from: usize,
     side: usize,
 )
-    requires { Small side (from + side) × Holds (from + side) (shown_here ar ai) × Holds (side * side) (shown_here br bi) × Holds (from + side) (here reals imags) }
+    requires { Small side (from + side) × Holds (from + side) (shown_here ar ai) × Holds (side * side) (shown_here br bi)
+        × Holds (from + side) (here reals imags) }
     ensures { Filled from side (row_dot side from (shown ar ai) (shown br bi) side) (before reals imags) (after reals imags) }
 {
     clear_row(reals, imags, from, side);

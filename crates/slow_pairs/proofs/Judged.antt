@@ -29,7 +29,8 @@ pub record PairJudged (rule : Rule) (n t : ℕ) (c : Controls) (b out : Buffers)
   pub is : Judges (into_tests n b out ++ (rule_call rule n t c b).tests) r
 
 pub pair_judged : {rule : Rule} {n t : ℕ} {c : Controls} {b out : Buffers} {s u m o r : Answer} → Judges (size_tests n out) s
-    → Judges (size_tests n b ++ seat_tests (most_of rule) n t c) u → m ≡ first_of s u → Judges (own_of rule) o → r ≡ first_of m o → PairJudged rule n t c b out r
+    → Judges (size_tests n b ++ seat_tests (most_of rule) n t c) u → m ≡ first_of s u → Judges (own_of rule) o
+    → r ≡ first_of m o → PairJudged rule n t c b out r
 pair_judged {rule} {n} {t} {c} {b} {out} j k e l f =
     let seats = seat_tests (most_of rule) n t c in
     record { is = all_judged n b out seats (own_of rule) (seats_numbered (most_of rule) n t c) (seat_judged n b out seats j k e) l f }
