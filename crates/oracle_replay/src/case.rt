@@ -1,7 +1,8 @@
 // One case: its head says what is called, on how many qubits, and so how many floats follow.
 use crate::floats::read_floats;
 use crate::run::run_case;
-use libc::STDIN_FILENO;
+use reading::read_full;
+use std::io::Read;
 
 // The verdict on a case is 1 where anything differs, and its upper bit says that there was none: two verdicts are joined by `|`.
 pub(crate) const SAME: u64 = 0;
@@ -38,7 +39,7 @@ const MOST_SAMPLED: u8 = 6;
 const MOST_PLACES: usize = 64;
 
 // How many places the first operand has, and how many the second and what is wanted.
-fn with_places(head: Head, first: usize, places: usize) -> u64 {
+fn with_places<R: Read>(input: &mut R, head: Head, first: usize, places: usize) -> u64 {
     if MOST_PLACES < first {
         return UNREAD;
     }
@@ -48,8 +49,9 @@ fn with_places(head: Head, first: usize, places: usize) -> u64 {
     let mut floats = [0.0; 384];
     let mut reals = [0.0; MOST_PLACES];
     let mut imags = [0.0; MOST_PLACES];
-    if read_floats(&mut floats, first, places) {
+    if read_floats(input, &mut floats, first, places) {
         run_case(
+            input,
             head,
             first,
             &floats,
@@ -61,7 +63,7 @@ fn with_places(head: Head, first: usize, places: usize) -> u64 {
     }
 }
 
-fn sized_case(head: Head) -> u64 {
+fn sized_case<R: Read>(input: &mut R, head: Head) -> u64 {
     let n = head.n;
     if MOST_SAMPLED < n {
         return UNREAD;
@@ -70,29 +72,32 @@ fn sized_case(head: Head) -> u64 {
     let all: usize = 1 << (n + n);
     let kind = head.kind;
     match kind {
-        RECORD => with_places(head, 0, side),
-        GATE_MATRIX => with_places(head, 4, all),
-        TRANSPOSE => with_places(head, 0, all),
-        PRODUCT => with_places(head, all, all),
-        STATE_PRODUCT => with_places(head, all, side),
+        RECORD => with_places(input, head, 0, side),
+        GATE_MATRIX => with_places(input, head, 4, all),
+        TRANSPOSE => with_places(input, head, 0, all),
+        PRODUCT => with_places(input, head, all, all),
+        STATE_PRODUCT => with_places(input, head, all, side),
         _ => UNREAD,
     }
 }
 
-pub(crate) fn read_case() -> u64 {
+pub(crate) fn read_case<R: Read>(input: &mut R) -> u64 {
     let mut bytes = [0u8; 4];
-    let got = io::read_full(STDIN_FILENO, &mut bytes);
+    let got = read_full(input, &mut bytes);
     if got == 0 {
         return END;
     }
     if got < 4 {
         UNREAD
     } else {
-        sized_case(Head {
-            kind: bytes[0],
-            n: bytes[1],
-            given: bytes[2],
-            length: bytes[3],
-        })
+        sized_case(
+            input,
+            Head {
+                kind: bytes[0],
+                n: bytes[1],
+                given: bytes[2],
+                length: bytes[3],
+            },
+        )
     }
 }
