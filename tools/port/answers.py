@@ -355,11 +355,14 @@ def convert(crate, names, folder):
                 body = f"λ {' '.join(v for v in var[1:] if v != 'κs')}. " * bool([v for v in var[1:] if v != "κs"]) + body
             var = var[0] if var else "c"
         else:
-            m = re.match(r"\(λ (\S+?)(?: κs)?\.\s*(.*)\)$", it, re.S)
+            m = re.match(r"\(λ (\S+?)((?: [^\s.]+)*)\.\s*(.*)\)$", it, re.S)
             if m:
-                var, body = m[1], m[2]
+                more = [v for v in m[2].split() if v != "κs"]
+                var, body = m[1], (f"λ {' '.join(more)}. " if more else "") + m[3]
             else:
                 var, body = "c", f"{it} c"
+            u = re.search(r"^unfolding .*$", spec, re.M)
+            extra = u[0] + "\n" if u else ""
         if re.fullmatch(r"\s*search rules\s*", body):
             continue
         if var != "c":

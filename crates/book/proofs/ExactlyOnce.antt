@@ -1,6 +1,6 @@
 -- Demand 3, proved: by one delivery after the other, with `Holds` between them. Junk, repeats, early records and other sessions' leave everything as it is and
 -- make no start longer; the next record of the list is taken, since all are accepted in order, and makes the longest start one longer. Assumes nothing.
-use Prim.Native.Nat.{ℕ, zero, suc, ◌+◌, ◌*◌, ◌/◌, ◌%◌, ◌^◌, ◌<◌}
+use Prim.Native.Nat.{ℕ, zero, suc, ◌+◌, ◌^◌, ◌<◌}
 use mathlib.Core.Bool.{Bool, true, false, cond}
 use mathlib.Core.List.{List, [], ◌∷◌, ◌++◌, append-nil, append_assoc, flat_map}
 use mathlib.Core.Logic.{inl, inr, ⊎_elim}
@@ -36,7 +36,7 @@ record Placed (own j : ℕ) (r : Record) (rs : List Record) : Type 0 where
   start : take (suc i) rs ≡ take i rs ++ (r ∷ [])
 
 placed : (own j : ℕ) (rs : List Record) (r : Record) → Numbered own j rs → In r rs → Placed own j r rs
-placed own j [] r w x'' = elim x'' [ ]
+placed own j [] r w h = elim h [ ]
 placed own j (x ∷ rs) r w (inl e) =
     record {
       i = 0;
@@ -106,10 +106,10 @@ module _ (n : ℕ) where
 
 -- ---- the mark
 
-marked_append : (m : ℕ) (xs ys : List ℕ) → marked m (xs ++ ys) ≡ marked (marked m xs) ys
+marked_append : (xs ys : List ℕ) (m : ℕ) → marked m (xs ++ ys) ≡ marked (marked m xs) ys
 unfolding marked
-marked_append m [] ys = refl
-marked_append m (x ∷ xs) ys = marked_append ((m * 2 ^ 5 % 2 ^ 32 + m / 2 ^ 27 + x) % 2 ^ 32) xs ys
+marked_append [] ys m = refl
+marked_append (x ∷ xs) ys m = marked_append xs ys _
 
 bytes_one_more : (xs : List Record) (r : Record) → flat_map write_record (xs ++ (r ∷ [])) ≡ flat_map write_record xs ++ write_record r
 unfolding flat_map
@@ -127,7 +127,7 @@ mark_one_more : (xs : List Record) (r : Record) (m : ℕ) → m ≡ marked 0 (fl
     → marked m (write_record r) ≡ marked 0 (flat_map write_record (xs ++ (r ∷ [])))
 mark_one_more xs r m e =
     ap (λ (k : ℕ). marked k (write_record r)) e
-    ∙ sym (marked_append 0 (flat_map write_record xs) (write_record r)) ∙ sym (ap (marked 0) (bytes_one_more xs r))
+    ∙ sym (marked_append (flat_map write_record xs) (write_record r) 0) ∙ sym (ap (marked 0) (bytes_one_more xs r))
 
 -- ---- one delivery
 

@@ -3,7 +3,7 @@ use Prim.Native.Nat.{ℕ}
 use mathlib.Core.Option.{Option, some, none}
 use mathlib.Core.Path.{◌≡◌, refl}
 use native.Mathlib.Omega.{arith}
-use Rattle.book.specs.Answers.{Gives, gives, denied, or_denied}
+use Rattle.book.specs.Answers.{gives, denied, or_denied}
 
 module _ {A : Type 0} (k : ℕ) where
   pub gives_is : {a : A} (o : Option A) → gives a ≡ or_denied k o → o ≡ some a

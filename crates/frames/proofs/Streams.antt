@@ -5,7 +5,7 @@ use native.Mathlib.Nat.{sub-zero}
 use native.Mathlib.Omega.{arith}
 use mathlib.Core.Bool.{Bool, true, false}
 use mathlib.Core.List.{List, [], ◌∷◌, ◌++◌, append_assoc, append-nil}
-use mathlib.Core.Option.{Option, some, none}
+use mathlib.Core.Option.{some, none}
 use mathlib.Core.Path.{◌≡◌, refl, sym, ap, ap₂, ◌∙◌}
 use lib.Dec.{ltb}
 use lib.ListN.{length, take, drop, length-append, length-drop}
@@ -14,7 +14,7 @@ use borrow.Author.Tests.{lt-ltb, le-ltb, ltb-true, ltb-false}
 use Rattle.frames.specs.Frames.{next_of}
 use Rattle.frames.specs.Streams.{Rest, begun, passing, stopped, Step, waiting, complete, past, frame_of, step, Stream, ends, goes_on, stream_in, stream_of}
 use Rattle.frames.specs.declared.Next.{Next}
-use Rattle.frames.specs.declared.Next.TheVariants.{Whole, Over, Wrong, More}
+use Rattle.frames.specs.declared.Next.TheVariants.{More}
 use Rattle.frames.proofs.Nexts.{length_of, next_none, Told, nothing, wrong, short, part, over, whole, told, room, wrong_on, over_on, whole_on}
 
 -- what a stream leaves: bytes that begin a frame and do not complete it, or some bytes still to pass

@@ -11,7 +11,6 @@ use lib.Pow.{pow-add, pow_pos, pow_mono}
 use lib.Ieee.{size, nearest}
 use lib.Ieee.Digits.{size-lt, size_reaches}
 use Rattle.numbers.specs.Fused.{whole_root}
-use Rattle.numbers.specs.Nearest.{over}
 use Rattle.numbers.proofs.Orders.{Cmp, cmp}
 use Rattle.numbers.proofs.Roots.{IsRoot, root_least, root_most, twice_square, whole_root_root, four_pow, four_square, four_pos}
 use Rattle.numbers.proofs.Grid.{Short, beside}

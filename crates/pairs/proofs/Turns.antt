@@ -5,7 +5,6 @@ use mathlib.Core.Path.{◌≡◌, refl, sym, ap, ap₂, ◌∙◌, subst}
 use native.Mathlib.Decide.{dec_lt}
 use native.Mathlib.Nat.{add-mul, one-mul, pow-suc, mod-lt, lt_of_mul-lt-mul_right, mul-le-mul_right, div-add-mod', mul-mod_left, zero-mod}
 use native.Mathlib.Omega.{arith}
-
 use lib.Bits.{bit_and, bit_or, and_self, and_le_r, and_mask, and_block}
 use lib.ListN.{length}
 use lib.Pow as Pow

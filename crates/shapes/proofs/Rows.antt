@@ -2,10 +2,7 @@
 use Prim.Native.Nat.{ℕ, zero, suc, ◌-◌, ◌<◌, ◌≤◌}
 use native.Mathlib.Omega.{arith}
 use mathlib.Core.Path.{◌≡◌, refl, subst}
-use Rattle.book.specs.Records.{Row, plain, angled, unlisted, row_of}
-use Rattle.book.specs.declared.Angle.{Angle}
-use Rattle.book.specs.declared.Controls.{Controls}
-use Rattle.book.specs.declared.Gate.{Gate}
+use Rattle.book.specs.Records.{plain, angled, unlisted, row_of}
 use Rattle.shapes.specs.Gates.{plain_gate, angled_gate}
 
 from_1 : (k : ℕ) → k < 4 → plain (plain_gate (suc k)) ≡ row_of (suc k)

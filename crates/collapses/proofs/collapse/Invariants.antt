@@ -1,12 +1,7 @@
 -- `collapses::collapse` meets its contract: both halves of one block more in each turn. Assumes nothing.
-use Prim.Native.Nat.{◌+◌, ◌-◌, ◌^◌, ◌≤◌, ◌<◌}
-use mathlib.Core.Path.{◌≡◌}
-use native.Mathlib.Omega.{arith}
+use Prim.Native.Nat.{◌-◌, ◌^◌}
 use Rattle.book.specs.Answers.{buffers}
-use Rattle.seated.proofs.Shifts.{shl, shl_is}
-use Rattle.pairs.proofs.Blocks.{place_fits, nearer}
-use Rattle.collapses.proofs.Stretches.{Collapsing, collapse_starts, block_room, lower_half, upper_half, block_done, collapse_ends}
-use Rattle.probabilities.proofs.Sums.{small}
+use Rattle.collapses.proofs.Stretches.{Collapsing}
 use Rattle.collapses.proofs.collapse.Given as goal
 
 abbrev pub invariant-loop-base : goal.invariant-loop-base

@@ -1,11 +1,7 @@
 -- `collapses::scale_part` meets its contract: one place more in each turn. Assumes nothing.
 use Prim.Native.Nat.{◌-◌, ◌≤◌}
-use mathlib.Core.Path.{refl}
-use native.Mathlib.Omega.{arith}
-use borrow.Author.Rules.{rules}
 use Rattle.book.specs.Answers.{buffers}
 use Rattle.collapses.specs.Halves.{scaled, Remade}
-use Rattle.collapses.proofs.Stretches.{none, one_more, done}
 use Rattle.collapses.proofs.scale_part.Given as goal
 
 abbrev pub invariant-loop-i : goal.invariant-loop-i

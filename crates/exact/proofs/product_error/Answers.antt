@@ -1,5 +1,4 @@
 -- `exact::product_error` meets its contract: each of its steps is exact. Assumes nothing.
-use borrow.Author.Rules.{rules}
 use Rattle.exact.proofs.ProductError.{product_error}
 use Rattle.exact.proofs.product_error.Goals as goal
 

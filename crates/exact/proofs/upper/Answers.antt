@@ -1,14 +1,11 @@
 -- `exact::upper` meets its contract: the bits are rounded as the significand is, and 64 of them hold the sum. Assumes nothing.
-use Prim.Native.Nat.{ℕ, suc, ◌+◌, ◌*◌, ◌^◌, ◌<◌}
-use mathlib.Core.Path.{◌≡◌}
-use mathlib.Core.Bool.{Bool, true, false, not, cond}
-use native.Mathlib.Omega.{arith}
+use Prim.Native.Nat.{◌*◌, ◌^◌}
+use mathlib.Core.Bool.{not}
 use lib.Dec.{T}
-use lib.Ieee.{Float, binary64, prec, low, hid, top, is_nan, to_bits}
-use Rattle.exact.specs.Window.{last, half}
+use lib.Ieee.{Float, binary64, low, is_nan}
 use Rattle.exact.specs.Steps.{Near}
 use Rattle.exact.proofs.Written.{number}
-use Rattle.exact.proofs.UpperPart.{cut_at, upper_number, halved}
+use Rattle.exact.proofs.UpperPart.{upper_number, halved}
 use Rattle.exact.proofs.upper.Goals as goal
 
 to_bits_lem : (x : Float) → Near binary64 x → T (not (is_nan x))

@@ -1,16 +1,15 @@
 -- `fields::angles_field` answers the eight floats of the field that is listed. Assumes nothing.
-use Prim.Native.Nat.{ℕ, ◌+◌, ◌≤◌}
+use Prim.Native.Nat.{ℕ, ◌+◌}
 use native.Mathlib.Omega.{arith}
 use mathlib.Core.Bool.{true}
 use mathlib.Core.Path.{◌≡◌, sym, ap, ◌∙◌}
-use lib.ListN.{length, take, drop}
+use lib.ListN.{take, drop}
 use mathlib.Core.List.{List}
 use mathlib.Core.Option.{some}
 use Rattle.book.specs.Records.{starts, read_angles}
 use Rattle.fields.specs.Answers.{angles_there}
 use Rattle.fields.specs.declared.AnglesField.TheVariants.{Angles as Eight}
-use Rattle.heads.proofs.Places.{here_room, here, gone, float_take}
-use borrow.Author.Rules.{rules}
+use Rattle.heads.proofs.Places.{here, gone, float_take}
 use Rattle.fields.proofs.angles_field.Goals as goal
 
 angles_take : (l : List ℕ) → read_angles (take 64 l) ≡ read_angles l

@@ -1,16 +1,15 @@
 -- `fields::number_field` answers the number of the field that is listed, which is below 256 to the power of its width, and the place behind it.
 -- Assumes nothing.
-use Prim.Native.Nat.{ℕ, ◌+◌, ◌^◌, ◌≤◌, ◌<◌}
+use Prim.Native.Nat.{ℕ, ◌+◌, ◌^◌, ◌<◌}
 use native.Mathlib.Omega.{arith}
 use mathlib.Core.Bool.{true}
 use mathlib.Core.Option.{some}
 use mathlib.Core.Path.{◌≡◌, sym, ap, ◌∙◌}
-use lib.ListN.{length, drop}
-use borrow.Author.Rules.{rules}
-use borrow.Author.Tests.{le-leb, lt-leb}
+use lib.ListN.{drop}
+use borrow.Author.Tests.{le-leb}
 use Rattle.book.specs.Records.{number, starts}
 use Rattle.fields.specs.declared.Field.TheVariants.{Number, Missing}
-use Rattle.heads.proofs.Places.{here_room, here, gone}
+use Rattle.heads.proofs.Places.{here, gone}
 use Rattle.fields.proofs.number_field.Goals as goal
 
 same_number : (n k m j : ℕ) → Number n k ≡ Number m j → n ≡ m

@@ -1,15 +1,14 @@
 -- `fields::pair_field` answers the two floats of the field that is listed. Assumes nothing.
-use Prim.Native.Nat.{◌+◌, ◌≤◌}
+use Prim.Native.Nat.{◌+◌}
 use native.Mathlib.Omega.{arith}
 use mathlib.Core.Bool.{true}
 use mathlib.Core.Path.{◌≡◌, sym, ap, ◌∙◌}
-use lib.ListN.{length, drop}
+use lib.ListN.{drop}
 use mathlib.Core.Option.{some}
 use Rattle.book.specs.Records.{starts}
 use Rattle.fields.specs.Answers.{two_floats, pair_there}
 use Rattle.fields.specs.declared.PairField.TheVariants.{Floats}
-use Rattle.heads.proofs.Places.{here_room, here, gone, float_take}
-use borrow.Author.Rules.{rules}
+use Rattle.heads.proofs.Places.{here, gone, float_take}
 use Rattle.fields.proofs.pair_field.Goals as goal
 
 pub returns-then-starts_at : goal.returns-then-starts_at

@@ -2,7 +2,6 @@
 use native.Mathlib.Omega.{arith}
 use mathlib.Core.Path.{refl}
 use lib.Ieee.{of_int, of_bits}
-use borrow.Author.Rules.{rules}
 use Rattle.first_state.proofs.First.{first_real}
 use Rattle.first_state.proofs.first_reals.Goals as goal
 

@@ -1,6 +1,5 @@
 -- `flat::put_record` counts the places, and then writes all of it. Assumes nothing.
 use mathlib.Core.Path.{sym, ◌∙◌}
-use borrow.Author.Rules.{rules}
 use Rattle.flat.proofs.Enough.{enough}
 use Rattle.flat.proofs.put_record.Goals as goal
 

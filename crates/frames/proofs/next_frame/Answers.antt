@@ -8,7 +8,6 @@ use Rattle.frames.specs.Frames.{next_of, sized}
 use Rattle.frames.specs.declared.Next.{Next}
 use Rattle.frames.proofs.Reading.{two_is}
 use Rattle.frames.proofs.Nexts.{length_of, next_none, next_wrong, next_short, next_sized}
-use borrow.Author.Rules.{rules}
 use Rattle.frames.proofs.next_frame.Goals as goal
 
 of_two : (bs : List ℕ) (have high low : ℕ) {r : Next} → have ≡ length bs → 3 ≤ have → high ≡ get_or bs 1 0 → low ≡ get_or bs 2 0

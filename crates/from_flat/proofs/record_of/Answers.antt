@@ -4,7 +4,6 @@ use native.Mathlib.Omega.{arith}
 use mathlib.Core.Bool.{false}
 use mathlib.Core.Path.{◌≡◌, sym, ◌∙◌}
 use lib.ListN.{length}
-use borrow.Author.Rules.{rules}
 use Rattle.flat.proofs.Enough.{enough}
 use Rattle.flat.specs.Numbers.{too_few}
 use Rattle.from_flat.proofs.Recorded.{few, no_number, no_target, no_gate, a_gate}

@@ -18,14 +18,18 @@ use Rattle.gathering.proofs.go_on.Goals as goal
 module _ (next : tie.After-next-frame) where
   abbrev first : List ℕ
   first = next.before.before.before.args.first.now
+
   abbrev piece : List ℕ
   piece = next.before.before.before.args.piece.now
+
   begins : {x : Next} → next.next-frame.result ≡ x → next_of (first ++ piece) ≡ x
   begins e = sym next.next-frame.ensures ∙ e
+
   fits : {len : ℕ} → len ≡ length_of (first ++ piece) → Framed first len
   fits is =
       goes_on first piece next.before.before.before.pre
       (λ i. omega (arith, next.before.before.shared-slice-known.given i)) (λ i. omega (arith, next.before.shared-slice-known2.given i)) is
+
   gathers : {x : Next} {r : Gathered} → next.next-frame.result ≡ x → Gathers (frame_of x first piece) (first ++ piece) r
       → Gathers (step (begun first) piece) (first ++ piece) r
   unfolding step

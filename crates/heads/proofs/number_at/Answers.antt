@@ -1,13 +1,11 @@
 -- `heads::number_at` reads the number that the bytes are. The loop's invariant: n is the number of the bytes passed, and is
 -- below 256 to the power of their count, so that up to 8 bytes have room. Assumes nothing.
-use Prim.Native.Nat.{ℕ, ◌≤◌, ◌<◌, ◌-◌, ◌+◌, ◌*◌, ◌^◌}
+use Prim.Native.Nat.{ℕ, ◌<◌, ◌-◌, ◌+◌, ◌*◌, ◌^◌}
 use native.Mathlib.Nat.{pow-le-pow_right}
 use native.Mathlib.Numerals.{add-one}
 use native.Mathlib.Omega.{arith}
-use mathlib.Core.Path.{◌≡◌, sym, ap, ◌∙◌, subst}
-use lib.ListN.{take, drop, length, get_or}
-use borrow.Author.Rules.{rules}
-use Rattle.book.specs.Records.{number}
+use mathlib.Core.Path.{sym, ap, ◌∙◌}
+use lib.ListN.{length, get_or}
 use Rattle.wire.proofs.Numbers.{number_more}
 use Rattle.heads.proofs.number_at.Goals as goal
 

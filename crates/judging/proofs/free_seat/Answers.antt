@@ -1,5 +1,4 @@
 -- `judging::free_seat` meets its contract: without controls tests 3, 4 and 5 look at the target alone. Assumes nothing.
-use borrow.Author.Rules.{rules}
 use Rattle.seated.proofs.Seats.{free_judged}
 use Rattle.judging.proofs.free_seat.Goals as goal
 

@@ -1,8 +1,7 @@
 -- `judging::numbers` meets its contract. Assumes nothing.
-use mathlib.Core.Bool.{Bool, true, false, not, cond}
+use mathlib.Core.Bool.{true, false}
 use mathlib.Core.List.{List}
-use mathlib.Core.Path.{◌≡◌, refl, sym, ap, ◌∙◌}
-use borrow.Author.Rules.{rules}
+use mathlib.Core.Path.{◌≡◌, sym, ◌∙◌}
 use lib.Ieee.{Float}
 use Rattle.book.specs.Answers.{taken, refused, first}
 use Rattle.book.specs.Gates.{all_finite, finite_tests}

@@ -1,6 +1,5 @@
 -- `marks::marked` meets its contract: the mark over what is left, from here, is the mark over all of it. Assumes nothing.
-use Rattle.std.proofs.Common.{◌≡◌, ◌-◌, ◌≤◌, length, drop, sym, refl, ◌∙◌, arith, rules}
-use Rattle.book.specs.Sessions.{marked}
+use Rattle.std.proofs.Common.{sym, ◌∙◌, arith}
 use Rattle.marks.proofs.Steps.{left_none, left_step}
 use Rattle.marks.proofs.marked.Goals as goal
 

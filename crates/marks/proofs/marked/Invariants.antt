@@ -1,7 +1,6 @@
 -- `marks::marked` meets its contract: the mark over what is left, from here, is the mark over all of it. Assumes nothing.
-use Rattle.std.proofs.Common.{◌≡◌, ◌-◌, ◌≤◌, length, drop, sym, refl, ◌∙◌, arith, rules}
+use Rattle.std.proofs.Common.{◌≡◌, ◌-◌, length, drop}
 use Rattle.book.specs.Sessions.{marked}
-use Rattle.marks.proofs.Steps.{left_none, left_step}
 use Rattle.marks.proofs.marked.Given as goal
 
 abbrev pub invariant-loop-i : goal.invariant-loop-i

@@ -1,7 +1,6 @@
 -- `masked::read_angled` reads a gate of codes 5 to 8: each field's answer decides, and then that nothing stands behind the second. Assumes nothing.
 use mathlib.Core.Path.{sym, ap, ◌∙◌}
 use lib.ListN.{length}
-use borrow.Author.Rules.{rules}
 use borrow.Author.Tests.{eq-eqb, ne_eqb}
 use Rattle.shapes.specs.Gates.{angled_gate}
 use Rattle.shapes.specs.declared.Made.TheVariants.{Gate as Made}

@@ -1,7 +1,6 @@
 -- `masked::read_plain` reads a gate of codes 1 to 4: the field's answer decides, and then that nothing stands behind it. Assumes nothing.
 use mathlib.Core.Path.{sym, ap, ◌∙◌}
 use lib.ListN.{length}
-use borrow.Author.Rules.{rules}
 use borrow.Author.Tests.{eq-eqb, ne_eqb}
 use Rattle.shapes.specs.Gates.{plain_gate}
 use Rattle.shapes.specs.declared.Made.TheVariants.{Gate as Made}

@@ -1,7 +1,6 @@
 -- `masked::read_u` reads a U: each field's answer decides, and then that nothing stands behind the second. Assumes nothing.
-use mathlib.Core.Path.{sym, ap, ◌∙◌}
+use mathlib.Core.Path.{sym, ◌∙◌}
 use lib.ListN.{length}
-use borrow.Author.Rules.{rules}
 use borrow.Author.Tests.{eq-eqb, ne_eqb}
 use Rattle.book.specs.declared.Gate.TheVariants.{U}
 use Rattle.masked.proofs.Answered.{eight_by}

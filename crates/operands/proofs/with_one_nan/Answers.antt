@@ -2,7 +2,6 @@
 use mathlib.Core.Path.{sym, ◌∙◌, subst}
 use lib.Dec.{T}
 use lib.Ieee.Compare.{differs_from_itself}
-use borrow.Author.Rules.{rules}
 use Rattle.operands.proofs.Floats.{nan_is}
 use Rattle.operands.proofs.with_one_nan.Goals as goal
 

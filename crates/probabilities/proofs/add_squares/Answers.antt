@@ -1,11 +1,6 @@
 -- `probabilities::add_squares` meets its contract: one square more in each turn. Assumes nothing.
-use Prim.Native.Nat.{◌-◌, ◌≤◌}
-use mathlib.Core.Path.{◌≡◌}
+use Prim.Native.Nat.{◌-◌}
 use native.Mathlib.Omega.{arith}
-use borrow.Author.Rules.{rules}
-use Rattle.book.specs.Answers.{buffers}
-use Rattle.book.specs.State.{at}
-use Rattle.probabilities.specs.Stretches.{added}
 use Rattle.probabilities.proofs.Sums.{added_none, added_more}
 use Rattle.probabilities.proofs.add_squares.Goals as goal
 

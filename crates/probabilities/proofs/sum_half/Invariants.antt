@@ -1,11 +1,7 @@
 -- `probabilities::sum_half` meets its contract: the half's stretch of one block more in each turn. Assumes nothing.
-use Prim.Native.Nat.{◌+◌, ◌-◌, ◌*◌, ◌%◌, ◌^◌, ◌≤◌, ◌<◌}
-use mathlib.Core.Path.{◌≡◌}
-use native.Mathlib.Omega.{arith}
+use Prim.Native.Nat.{◌-◌, ◌^◌}
 use Rattle.book.specs.Answers.{buffers}
-use Rattle.seated.proofs.Shifts.{shl, shl_is}
-use Rattle.pairs.proofs.Blocks.{place_fits, nearer}
-use Rattle.probabilities.proofs.Sums.{Summing, half_offset, sums_start, block_room, half_room, block_stretch, block_done, sums_end, small}
+use Rattle.probabilities.proofs.Sums.{Summing}
 use Rattle.probabilities.proofs.sum_half.Given as goal
 
 abbrev pub invariant-loop-base : goal.invariant-loop-base

@@ -45,8 +45,10 @@ full m d h k e =
   where
     back : (d : ℕ) → d ≤ p → d + (p - d) ≡ p
     back d h = omega arith
+
     room : (d : ℕ) → d ≤ p → d + (p - d) ≤ 64
     room d h = omega arith
+
     above : {z : ℕ} → z ≡ p → p - 1 < z
     above e = omega arith
 
@@ -76,14 +78,18 @@ squared m e d b f i z one =
   where
     halved : (E z b : ℕ) → z ≤ E → (E - z) % 2 ≡ b → z + b + 2 * ((E - z) / 2) ≡ E
     halved E z b h k = omega arith
+
     few : (d : ℕ) → p - d ≤ e + l
     few d = omega arith
+
     bound : (b x : ℕ) → b ≤ 1 → hid binary64 ≤ x → x < 2 ^ p → (hid binary64 ≤ x * 2 ^ b) × (x * 2 ^ b < 2 ^ suc p)
     bound zero x k h h' = (omega arith, omega arith)
     bound (suc zero) x k h h' = (omega arith, omega arith)
     bound (suc (suc b)) x k h h' = absurd (omega arith)
+
     reach : (d : ℕ) → 0 < d → 30 ≤ (e + l - (p - d)) / 2
     reach d h = omega arith
+
     limit : (d : ℕ) → e < 2 * emax binary64 → (e + l - (p - d)) / 2 < 2 * suc (emax binary64)
     limit d h = omega arith
 

@@ -2,7 +2,7 @@
 use mathlib.Core.Path.{◌≡◌, sym, ◌∙◌}
 use Prim.Native.Nat.{ℕ, ◌-◌, ◌<◌, ◌^◌}
 use native.Mathlib.Omega.{arith}
-use lib.Count.{count_leading_zeros, leading_le, leading_length}
+use lib.Count.{count_leading_zeros, leading_length}
 use lib.Ieee.{size}
 use Rattle.numbers.proofs.Sizes.{size_of_length}
 use Rattle.rounding.proofs.digits.Goals as goal

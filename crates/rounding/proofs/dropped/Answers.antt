@@ -1,6 +1,5 @@
 -- `rounding::dropped` meets its contract: a limb has at most 64 digits, so nothing overflows. Assumes nothing.
 use native.Mathlib.Omega.{arith}
-use borrow.Author.Rules.{rules}
 use lib.Ieee.Digits.{size-le}
 use Rattle.rounding.proofs.dropped.Goals as goal
 

@@ -4,7 +4,6 @@ use Prim.Native.Nat.{ℕ, suc, ◌+◌, ◌-◌, ◌*◌, ◌^◌, ◌≤◌, �
 use native.Mathlib.Nat.{le_trans, le_of_eq, mul-le-mul_right, one-mul, sub-le, zero-mul}
 use native.Mathlib.Omega.{arith}
 use mathlib.Core.Bool.{Bool}
-use borrow.Author.Rules.{rules}
 use lib.Dec.{lit≤}
 use lib.Pow.{pow-add, pow_pos, pow_mono}
 use lib.Ieee.{Format, binary64, prec, emax, low, hid, units, round}

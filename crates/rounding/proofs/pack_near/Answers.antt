@@ -4,7 +4,6 @@ use Prim.Native.Nat.{ℕ, suc, ◌+◌, ◌-◌, ◌*◌, ◌/◌, ◌%◌, ◌^
 use native.Mathlib.Nat.{pow-succ'}
 use native.Mathlib.Numerals.{add-one}
 use native.Mathlib.Omega.{arith}
-use borrow.Author.Rules.{rules}
 use lib.Ieee.{Format, binary64, prec, emax, low, hid, size, units}
 use lib.Ieee.Digits.{size-le}
 use lib.Ieee.Fits.{nearest-le, two}
@@ -39,18 +38,22 @@ kept f n k e l =
       where
         two_two : (x : ℕ) → 2 * (2 * x) ≡ 4 * x
         two_two x = omega arith
+
     most : (t q : ℕ) → q ≤ suc (t / 4) → t < 2 ^ suc (prec f + 1) → q ≤ 2 ^ prec f
     most t q a b = go (2 ^ prec f) (subst (λ (y : ℕ). t < y) (ap (λ (y : ℕ). 2 ^ suc y) (add-one (prec f)) ∙ quarters (prec f)) b)
       where
         go : (P : ℕ) → t < 4 * P → q ≤ P
         go P h = omega arith
+
     full : (t q : ℕ) → t / 4 ≤ q → 2 ^ suc (prec f) ≤ t → hid f ≤ q
     full t q a b = go (hid f) (subst (λ (y : ℕ). y ≤ t) (ap (λ (y : ℕ). 2 ^ suc y) (pred (prec f) (two f)) ∙ quarters (prec f - 1)) b)
       where
         pred : (p : ℕ) → 2 ≤ p → p ≡ suc (p - 1)
         pred p h = omega arith
+
         go : (H : ℕ) → 4 * H ≤ t → H ≤ q
         go H h = omega arith
+
     room : (z k l p : ℕ) → k ≡ z - (l + 16 + p) → 0 < k → suc p + (l + 16 - 2 + k) < z
     room z k l p e h = omega arith
 

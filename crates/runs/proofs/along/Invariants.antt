@@ -1,11 +1,8 @@
 -- `runs::along` meets its contract, by the walk of one pair at a turn. Assumes nothing.
-use Prim.Native.Nat.{◌+◌, ◌-◌, ◌^◌, ◌<◌}
-use native.Mathlib.Omega.{arith}
-use borrow.Author.Rules.{rules}
+use Prim.Native.Nat.{◌-◌}
 use Rattle.book.specs.Answers.{buffers}
 use Rattle.rules.specs.Rules.{quick_of}
-use Rattle.pairs.proofs.Buffers.{stepped}
-use Rattle.pairs.proofs.Spaced.{Walk, walk_starts, walk_ends, one_room, one_asks, one_steps}
+use Rattle.pairs.proofs.Spaced.{Walk}
 use Rattle.runs.proofs.along.Given as goal
 
 abbrev pub invariant-loop-i : goal.invariant-loop-i

@@ -1,10 +1,7 @@
 -- `runs::by_twos` meets its contract, by the walk of two pairs at a turn. Assumes nothing.
-use Prim.Native.Nat.{◌+◌, ◌-◌, ◌*◌, ◌^◌, ◌<◌}
+use Prim.Native.Nat.{◌+◌, ◌-◌, ◌^◌, ◌<◌}
 use native.Mathlib.Omega.{arith}
-use borrow.Author.Rules.{rules}
-use Rattle.book.specs.Answers.{buffers}
-use Rattle.rules.specs.Rules.{quick_of}
-use Rattle.pairs.proofs.Spaced.{Walk, walk_starts, walk_ends, two_room_next, two_asks, two_asks_next, two_asks_four, two_steps}
+use Rattle.pairs.proofs.Spaced.{walk_ends, two_room_next, two_asks, two_asks_next, two_asks_four, two_steps}
 use Rattle.runs.proofs.by_twos.Goals as goal
 
 pub overflow_add-i : goal.overflow_add-i

@@ -2,9 +2,8 @@
 use Prim.Native.Nat.{◌+◌, ◌-◌, ◌^◌, ◌<◌}
 use native.Mathlib.Omega.{arith}
 use Rattle.book.specs.Answers.{buffers}
-use Rattle.rules.specs.Rules.{quick_of}
 use Rattle.pairs.proofs.Bits.{or_ge}
-use Rattle.pairs.proofs.Turns.{Turns, Numbers, numbers, turns_start, turns_ask, turns_step, turns_end, stride_pos}
+use Rattle.pairs.proofs.Turns.{Numbers, numbers, turns_start, turns_ask, turns_step, turns_end}
 use Rattle.runs.proofs.runs.Goals as goal
 
 pub loop-u-init : goal.loop-u-init

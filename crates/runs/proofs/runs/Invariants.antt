@@ -1,10 +1,8 @@
 -- `runs::runs` meets its contract, by the law of the runs. Assumes nothing.
-use Prim.Native.Nat.{◌+◌, ◌-◌, ◌^◌, ◌<◌}
-use native.Mathlib.Omega.{arith}
+use Prim.Native.Nat.{◌-◌}
 use Rattle.book.specs.Answers.{buffers}
 use Rattle.rules.specs.Rules.{quick_of}
-use Rattle.pairs.proofs.Bits.{or_ge}
-use Rattle.pairs.proofs.Turns.{Turns, Numbers, numbers, turns_start, turns_ask, turns_step, turns_end, stride_pos}
+use Rattle.pairs.proofs.Turns.{Turns}
 use Rattle.runs.proofs.runs.Given as goal
 
 abbrev pub invariant-loop-u : goal.invariant-loop-u

@@ -1,6 +1,5 @@
 -- `seats::seat` meets its contract: each return cites the refusal that its test gives, and that those before it were passed. Each search is found within
 -- 50 fits; at the usual 1000 one that fails, as in an edit, takes a second longer. Assumes nothing.
-use borrow.Author.Rules.{rules}
 use Rattle.seats.proofs.Refusals.{seats}
 use Rattle.seats.proofs.seat.Goals as goal
 

@@ -1,8 +1,5 @@
 -- `short::all_modest` meets its contract. Assumes nothing.
-use mathlib.Core.Path.{sym}
-use mathlib.Core.Bool.{true≢false}
 use native.Mathlib.Omega.{arith}
-use borrow.Author.Rules.{rules}
 use borrow.Author.Tests.{eqb-true}
 use lib.Ieee.{binary64}
 use Rattle.short.proofs.Tests.{number, sum_numbers}
@@ -21,9 +18,9 @@ pub apart-requires-4 : goal.apart-requires-4
 apart-requires-4 c = (sum_numbers binary64 _ _ (sum_numbers binary64 _ _ (number _ c.if-w.false)).1).1
 
 pub returns : goal.returns
-returns c = (λ c h. (
-      c.apart.ensures.modest (omega (arith, eqb-true)),
-      c.apart-2.ensures.modest (omega (arith, eqb-true)),
-      c.apart-3.ensures.modest (omega (arith, eqb-true)),
-      c.apart-4.ensures.modest (omega (arith, eqb-true)),
-    )) c
+returns c = λ h. (
+  c.apart.ensures.modest (omega (arith, eqb-true)),
+  c.apart-2.ensures.modest (omega (arith, eqb-true)),
+  c.apart-3.ensures.modest (omega (arith, eqb-true)),
+  c.apart-4.ensures.modest (omega (arith, eqb-true)),
+)

@@ -1,9 +1,4 @@
 -- `short::are_fit` meets its contract. Assumes nothing.
-use mathlib.Core.Path.{sym}
-use mathlib.Core.Bool.{true≢false}
-use native.Mathlib.Omega.{arith}
-use borrow.Author.Rules.{rules}
-use borrow.Author.Tests.{eqb-true}
 use lib.Ieee.{binary64}
 use Rattle.short.proofs.Tests.{number, sum_numbers}
 use Rattle.short.proofs.are_fit.Goals as goal

@@ -1,8 +1,4 @@
 -- `short::are_near` meets its contract. Assumes nothing.
-use mathlib.Core.Path.{sym}
-use mathlib.Core.Bool.{true≢false}
-use borrow.Author.Rules.{rules}
-use borrow.Author.Tests.{ltb-true}
 use Rattle.operands.proofs.Floats.{ordinary_number}
 use Rattle.short.proofs.are_near.Goals as goal
 

@@ -1,6 +1,5 @@
 -- `short::from_both_sides` meets its contract: where both sides are one number, F lies between them. Assumes nothing.
 use mathlib.Core.Path.{refl, sym, subst}
-use borrow.Author.Rules.{rules}
 use lib.Dec.{T, lit≤}
 use lib.Ieee.{binary64, fits}
 use Rattle.short.proofs.Answer.{answer}

@@ -1,13 +1,12 @@
 -- `stores::store_floats` stores floats as their bits, one after the other. The loop's invariant: to store the floats that are left gives
 -- what all of them give. Assumes nothing.
-use Prim.Native.Nat.{ℕ, ◌≤◌, ◌-◌, ◌+◌, ◌*◌}
+use Prim.Native.Nat.{ℕ, ◌-◌, ◌+◌, ◌*◌}
 use native.Mathlib.Omega.{arith}
-use mathlib.Core.Path.{◌≡◌, sym, ap, ◌∙◌}
+use mathlib.Core.Path.{sym, ap, ◌∙◌}
 use lib.Ieee.{nan}
-use lib.ListN.{length, drop}
-use Rattle.book.specs.Records.{bytes, floats}
+use Rattle.book.specs.Records.{bytes}
 use Rattle.stores.specs.Stores.{store}
-use Rattle.stores.proofs.Stored.{floats_step, floats_all, floats_none}
+use Rattle.stores.proofs.Stored.{floats_step, floats_none}
 use borrow.Author.Rules.{rules}
 use Rattle.stores.proofs.store_floats.Goals as goal
 

@@ -1,8 +1,6 @@
 -- `stores::store_floats_field` stores a field of floats: its length is eight bytes for each. Assumes nothing.
-use Prim.Native.Nat.{◌+◌, ◌*◌}
-use native.Mathlib.Omega.{arith}
+use Prim.Native.Nat.{◌*◌}
 use lib.ListN.{length}
-use borrow.Author.Rules.{rules}
 use Rattle.book.specs.Records.{floats}
 use Rattle.stores.proofs.Stored.{stored_field}
 use Rattle.wire.proofs.Floats.{length_floats}

@@ -1,13 +1,10 @@
 -- `stores::store_number` stores a number in bytes, the highest first. The loop's invariant: to store what is left of the number in what
 -- is left of the bytes gives what the whole gives. Assumes nothing.
 use Prim.Native.Nat.{◌≤◌, ◌<◌, ◌^◌}
-use native.Mathlib.Omega.{arith}
-use mathlib.Core.Path.{◌≡◌, sym, ◌∙◌}
+use mathlib.Core.Path.{◌≡◌}
 use lib.ListN.{length}
 use Rattle.book.specs.Records.{bytes}
 use Rattle.stores.specs.Stores.{store}
-use Rattle.stores.proofs.Stored.{store_step, store_none}
-use borrow.Author.Rules.{rules}
 use Rattle.stores.proofs.store_number.Given as goal
 
 abbrev pub invariant-loop-i : goal.invariant-loop-i

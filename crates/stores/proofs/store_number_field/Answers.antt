@@ -1,7 +1,4 @@
 -- `stores::store_number_field` stores a field of one number: its length is the width. Assumes nothing.
-use Prim.Native.Nat.{◌+◌}
-use native.Mathlib.Omega.{arith}
-use borrow.Author.Rules.{rules}
 use Rattle.book.specs.Records.{bytes}
 use Rattle.stores.proofs.Stored.{stored_field}
 use Rattle.wire.proofs.Numbers.{length_bytes}

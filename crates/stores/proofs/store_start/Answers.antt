@@ -7,7 +7,6 @@ use Rattle.book.specs.Records.{bytes}
 use Rattle.stores.specs.Stores.{store}
 use Rattle.stores.proofs.Stored.{store_then}
 use native.Mathlib.Nat.{div-one}
-use borrow.Author.Rules.{rules}
 use Rattle.stores.proofs.store_start.Goals as goal
 
 pub returns : goal.returns

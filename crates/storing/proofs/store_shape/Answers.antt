@@ -1,14 +1,5 @@
 -- `storing::store_shape` stores the fields behind 04, shape by shape. Assumes nothing.
-use Prim.Native.Nat.{ℕ, ◌+◌, ◌*◌, ◌/◌, ◌%◌, ◌≤◌, ◌<◌}
-use native.Mathlib.Omega.{arith}
-use mathlib.Core.List.{List, [], ◌∷◌, ◌++◌}
-use mathlib.Core.Path.{◌≡◌, subst}
-use lib.ListN.{length}
-use borrow.Author.Rules.{rules}
-use Rattle.book.specs.Records.{bytes, fields_of, field}
-use Rattle.book.specs.declared.Shape.{Shape}
 use Rattle.stores.proofs.Stored.{stored_then}
-use Rattle.stores.specs.Stores.{Stored}
 use Rattle.storing.proofs.store_shape.Goals as goal
 
 pub returns-in-Angled : goal.returns-in-Angled

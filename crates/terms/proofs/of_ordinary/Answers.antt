@@ -1,14 +1,11 @@
 -- `terms::of_ordinary` meets its contract: an operand whose m is 0 is not ordinary, and of three that are F is `multiply_add`'s sum. Assumes nothing.
-use mathlib.Core.Path.{◌≡◌, sym, ◌∙◌}
+use mathlib.Core.Path.{sym, ◌∙◌}
 use Prim.Native.Nat.{◌*◌, ◌^◌}
-use borrow.Author.Rules.{rules}
-use lib.Dec.{T}
-use lib.Ieee.{Float, binary64, of_bits}
+use lib.Ieee.{binary64}
 use Rattle.numbers.specs.Fused.{fused}
 use Rattle.operands.specs.Operands.{ordinary}
-use Rattle.operands.proofs.Floats.{zero_is, was_ordinary, not_ordinary}
-use Rattle.terms.specs.Terms.{of_ordinary}
-use Rattle.terms.proofs.Ordinary.{fused_ordinary, all_three, not_three}
+use Rattle.operands.proofs.Floats.{was_ordinary}
+use Rattle.terms.proofs.Ordinary.{fused_ordinary, all_three}
 use Rattle.terms.proofs.of_ordinary.Goals as goal
 
 pub returns : goal.returns

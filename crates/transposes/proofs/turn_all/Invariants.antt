@@ -1,13 +1,7 @@
 -- `transposes::turn_all` meets its contract: one place more in each turn. Assumes nothing.
-use Prim.Native.Nat.{◌-◌, ◌*◌, ◌≤◌}
-use mathlib.Core.Path.{◌≡◌}
-use native.Mathlib.Omega.{arith}
-use borrow.Author.Rules.{rules}
+use Prim.Native.Nat.{◌-◌, ◌≤◌}
 use Rattle.book.specs.Answers.{buffers}
-use Rattle.matrices.proofs.Fills.{same_holds}
-use Rattle.matrices.proofs.Sides.{square_fits}
 use Rattle.transposes.specs.Mirrored.{Turned}
-use Rattle.transposes.proofs.Mirrors.{turned_none, turned_more}
 use Rattle.transposes.proofs.turn_all.Given as goal
 
 abbrev pub invariant-loop-place : goal.invariant-loop-place

@@ -1,6 +1,5 @@
 -- `judging::sized::size` meets its contract: each return cites the refusal that its test gives. Assumes nothing.
-use borrow.Author.Rules.{rules}
-use Rattle.judging.proofs.Refusals.{sizes, shift_fits}
+use Rattle.judging.proofs.Refusals.{sizes}
 use Rattle.judging.proofs.sized.size.Goals as goal
 
 pub returns-then-bad_size : goal.returns-then-bad_size

@@ -1,9 +1,8 @@
 -- `rounding::odd::shift_to_odd` meets its contract: x - (q << n) is the remainder, and a shift by 64 or more leaves nothing but the rest. Assumes nothing.
 use mathlib.Core.Path.{◌≡◌, sym, ap, ap₂, ◌∙◌}
 use Prim.Native.Nat.{ℕ, ◌-◌, ◌*◌, ◌/◌, ◌%◌, ◌^◌, ◌≤◌, ◌<◌}
-use native.Mathlib.Nat.{mod-le, le_trans, lt_of_le_of_lt, lt_of_lt_of_le, div-mul-le_self, mod-eq_of_lt, div-eq_of_lt, mod-eq-sub-div-mul}
+use native.Mathlib.Nat.{lt_of_le_of_lt, lt_of_lt_of_le, div-mul-le_self, mod-eq_of_lt, div-eq_of_lt, mod-eq-sub-div-mul}
 use native.Mathlib.Omega.{arith}
-use borrow.Author.Rules.{rules}
 use lib.Pow.{pow_mono}
 use Rattle.rounding.specs.Odd.{to_odd, cut_to_odd}
 use Rattle.rounding.proofs.odd.shift_to_odd.Goals as goal

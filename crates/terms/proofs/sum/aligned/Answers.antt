@@ -3,8 +3,7 @@ use mathlib.Core.Path.{◌≡◌, sym, ap, ap₂, ◌∙◌, subst}
 use Prim.Native.Nat.{ℕ, ◌+◌, ◌-◌, ◌*◌, ◌%◌, ◌^◌, ◌≤◌, ◌<◌}
 use native.Mathlib.Nat.{one-mul, mul_assoc, mod-eq_of_lt, lt_of_mul-lt-mul_right, le-add_right, lt_of_le_of_lt, lt_of_lt_of_le}
 use native.Mathlib.Omega.{arith}
-use borrow.Author.Rules.{rules}
-use lib.Dec.{lit<, lit≤}
+use lib.Dec.{lit≤}
 use lib.Pow.{pow-add, pow_pos, pow-lt, pow_mono, shl_lt}
 use lib.Ieee.{binary64, prec, sum}
 use Rattle.rounding.specs.Odd.{cut_to_odd}

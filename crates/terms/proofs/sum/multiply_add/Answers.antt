@@ -1,17 +1,11 @@
 -- `terms::sum::multiply_add` meets its contract: moving the significands up, by 11 and by 10 digits, takes as much off the exponents. Assumes nothing.
-use mathlib.Core.Path.{◌≡◌, sym, ap, ap₂, ◌∙◌, subst}
-use mathlib.Core.Logic.{◌⊎◌, inl, inr}
-use Prim.Native.Nat.{ℕ, ◌+◌, ◌*◌, ◌%◌, ◌^◌, ◌≤◌, ◌<◌}
-use native.Mathlib.Nat.{mul_assoc, mul_comm, mul_left_comm, mul_right_comm, mul-le-mul, mul-lt-mul_of_pos_right, lt_of_le_of_lt, mul-le-mul_left}
-use native.Mathlib.Nat.{le_of_lt, eq-zero-or-pos}
-use native.Mathlib.Omega.{arith}
-use borrow.Author.Rules.{rules}
+use mathlib.Core.Path.{◌≡◌, sym, ap, ap₂, ◌∙◌}
+use Prim.Native.Nat.{ℕ, ◌+◌, ◌*◌, ◌^◌}
+use native.Mathlib.Nat.{mul_assoc, mul_comm, mul_left_comm}
 use lib.Pow.{pow-add, pow_pos}
-use lib.Ieee.{binary64, prec, low, hid, sum, unlike}
+use lib.Ieee.{binary64, low, sum, unlike}
 use Rattle.numbers.proofs.Sums.{sum_scaled}
 use Rattle.rounding.specs.Working.{scale}
-use Rattle.operands.specs.Operands.{Fields}
-use Rattle.terms.specs.Terms.{Terms}
 use Rattle.terms.proofs.sum.multiply_add.Goals as goal
 
 regroup : (m n P Q k j : ℕ) → m * k * n * (P * Q * j) ≡ m * P * (n * Q) * (k * j)

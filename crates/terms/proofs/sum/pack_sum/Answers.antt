@@ -1,9 +1,8 @@
 -- `terms::sum::pack_sum` meets its contract: by the cases of lib.Ieee's `sum`. Assumes nothing.
 use mathlib.Core.Path.{◌≡◌, refl, sym, ap, ◌∙◌}
 use Prim.Native.Nat.{ℕ, ◌*◌, ◌^◌, ◌<◌}
-use native.Mathlib.Nat.{le_of_lt, le_antisymm, add-mul, mul-lt-mul_of_pos_right}
+use native.Mathlib.Nat.{le_antisymm, add-mul, mul-lt-mul_of_pos_right}
 use mathlib.Core.Bool.{Bool, true, false}
-use borrow.Author.Rules.{rules}
 use borrow.Author.Tests.{ltb-true, ltb-false}
 use lib.Dec.{ltb}
 use lib.Pow.{pow_pos}

@@ -5,7 +5,6 @@ use mathlib.Core.Logic.{◌⊎◌, inl, inr}
 use Prim.Native.Nat.{ℕ, ◌+◌, ◌-◌, ◌*◌, ◌^◌, ◌≤◌, ◌<◌}
 use native.Mathlib.Nat.{eq-zero-or-pos}
 use native.Mathlib.Omega.{arith}
-use borrow.Author.Rules.{rules}
 use lib.Ieee.{Format, binary64, prec, size, round}
 use Rattle.numbers.proofs.Sizes.{size_zero}
 use Rattle.terms.specs.Terms.{limbs}
@@ -19,6 +18,7 @@ enough f hi lo e p l = go (eq-zero-or-pos hi)
   where
     room : (x p z y e : ℕ) → p + 2 ≤ 64 → y ≡ z + 64 → z + e + 2 ≤ x + (y + e - x - p)
     room x p z y e k h = omega arith
+
     go : (hi ≡ 0) ⊎ (0 < hi) → (size hi ≡ 0) ⊎ (size hi + e + 2 ≤ below f + (size (limbs hi lo) + e - below f - prec f))
     go (inl h) = inl (ap size h ∙ size_zero)
     go (inr h) = inr (room (below f) (prec f) (size hi) (size (limbs hi lo)) e p (size_wide hi lo 64 h l))

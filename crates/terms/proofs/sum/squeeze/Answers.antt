@@ -1,10 +1,9 @@
 -- `terms::sum::squeeze` meets its contract: the upper limb's digits, moved to the top, and as many of the lower limb's as then have room. Assumes nothing.
 use mathlib.Core.Path.{◌≡◌, sym, ap, ap₂, ◌∙◌, subst}
 use Prim.Native.Nat.{ℕ, ◌+◌, ◌-◌, ◌*◌, ◌/◌, ◌%◌, ◌^◌, ◌≤◌, ◌<◌}
-use native.Mathlib.Nat.{mod-le, le_trans, lt_of_le_of_lt, le_of_eq, div-mul-le_self, mod-eq_of_lt, mod-eq-sub-div-mul, mul_assoc, add-zero, mul-add-div_right}
+use native.Mathlib.Nat.{lt_of_le_of_lt, le_of_eq, div-mul-le_self, mod-eq_of_lt, mod-eq-sub-div-mul, mul_assoc, add-zero, mul-add-div_right}
 use native.Mathlib.Nat.{mul-add-mod_self_right}
 use native.Mathlib.Omega.{arith}
-use borrow.Author.Rules.{rules}
 use mir.Syntax.{w64}
 use mir.Val.{Fits}
 use lib.Arith.{digits_lt}
@@ -28,15 +27,19 @@ plain x = omega arith
 module _ (hi lo n : ℕ) (few : n ≤ 64) (digits : hi < 2 ^ n) (limb : lo < 2 ^ 64) where
   back : 64 - n + n ≡ 64
   back = omega arith
+
   forth : n + (64 - n) ≡ 64
   forth = omega arith
+
   kept : (hi * 2 ^ (64 - n)) % 2 ^ 64 ≡ hi * 2 ^ (64 - n)
   kept = shl_exact n (64 - n) 64 digits (le_of_eq forth)
+
   fit : (hi * 2 ^ (64 - n)) % 2 ^ 64 + lo / 2 ^ n < 2 ^ 64
   fit =
       subst (λ (y : ℕ). y + lo / 2 ^ n < 2 ^ 64) (sym kept)
       (subst (λ (y : ℕ). hi * 2 ^ (64 - n) + lo / 2 ^ n < y) (sym (pow-add 2 n (64 - n)) ∙ ap (λ (y : ℕ). 2 ^ y) forth)
       (digits_lt digits (shr_lt (64 - n) n (subst (λ (y : ℕ). lo < 2 ^ y) (sym back) limb))))
+
   law : to_odd ((hi * 2 ^ (64 - n)) % 2 ^ 64 + lo / 2 ^ n) (lo - (lo / 2 ^ n * 2 ^ n) % 2 ^ 64) ≡ to_odd (limbs hi lo / 2 ^ n) (limbs hi lo % 2 ^ n)
   unfolding limbs
   law =

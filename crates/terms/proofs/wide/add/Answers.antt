@@ -1,7 +1,6 @@
 -- `terms::wide::add` meets its contract: one is carried where the lower limbs' sum does not fit. Assumes nothing.
 use Prim.Native.Nat.{ℕ, ◌+◌, ◌-◌, ◌^◌, ◌<◌}
 use native.Mathlib.Omega.{arith}
-use borrow.Author.Rules.{rules}
 use mathlib.Core.Path.{◌≡◌}
 use Rattle.terms.specs.Terms.{limbs}
 use Rattle.terms.proofs.wide.add.Goals as goal

@@ -1,6 +1,6 @@
 -- `terms::wide::subtract` meets its contract: where the lower limb is too small, one is lent by the upper, which is then larger than b's. Assumes nothing.
 use mathlib.Core.Path.{refl}
-use Prim.Native.Nat.{ℕ, ◌+◌, ◌-◌, ◌^◌, ◌≤◌, ◌<◌}
+use Prim.Native.Nat.{ℕ, ◌-◌, ◌^◌, ◌≤◌, ◌<◌}
 use native.Mathlib.Nat.{le_of_lt, sub-le, le_trans}
 use native.Mathlib.Omega.{arith}
 use Rattle.terms.specs.Terms.{limbs}
