@@ -122,8 +122,6 @@ def path_map(fn, place):
     for a in arms:
         name = a[0]
         for new, old, rest in a[2]:
-            if old == "match" and not rest:
-                continue
             rules.append((norm(old), rest, f"{name}.{new}"))
     rules.sort(key=lambda r: -len(r[1]))
     return m, rules
@@ -398,6 +396,7 @@ def convert(crate, names, folder):
             body = re.sub(r"\(" + re.escape(h) + r" c\)", h, body)
             body = re.sub(r"(?<![\w.'-])" + re.escape(h) + r" c(?![\w'.-])", h, body)
         body = fields(flat(body, projections), fn, place)
+        body = re.sub(r"(in_default[\w-]*)\.\1-own\.keys\d", r"\1.not-Taken", body)
         out[new] = (extra, body.strip())
     plain = [v[1] for h, v in helpers.items() if v[0] == "plain"]
     uses = [u for u in uses if not re.search(r"\.(Statement|Tie)\b", u)]
@@ -480,7 +479,7 @@ def main():
         write(crate, f, g, only=())
     said = run("rt", "check", where=where)
     open(f"/tmp/port-names/{crate}/first.txt", "w").write(said)
-    open_goals = {}
+    open_goals = {f: list(g[4]) for f, g in got.items()} if "--all" in sys.argv else {}
     for m in re.finditer(r"^fn (\S+?): (.*)$", said, re.M):
         if "did not prove" in m[2]:
             f = m[1].split("::", 1)[1].replace("::", "/")

@@ -51,7 +51,8 @@ pub data Told (bs : List ℕ) : Next → Type 0 where
 pub told : (bs : List ℕ) → Told bs (next_of bs)
 told bs = at_all (eqb (length bs) 0) refl
   where
-    long : 3 ≤ length bs → get_or bs 0 0 ≡ 0x20 → (over : Bool) → ltb most_bytes (length_of bs) ≡ over → (part : Bool) → ltb (length bs) (3 + length_of bs) ≡ part
+    long : 3 ≤ length bs → get_or bs 0 0 ≡ 0x20 → (over : Bool) → ltb most_bytes (length_of bs) ≡ over
+        → (part : Bool) → ltb (length bs) (3 + length_of bs) ≡ part
         → Told bs (sized (length bs) (length_of bs))
     long h t true o p e = rw o (over h t (ltb-true most_bytes (length_of bs) o))
     long h t false o true e = rw (o, e) (part h (ltb-false most_bytes (length_of bs) o) (ltb-true (length bs) (3 + length_of bs) e))

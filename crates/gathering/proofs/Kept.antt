@@ -5,13 +5,10 @@ use native.Mathlib.Omega.{arith}
 use mathlib.Core.Bool.{Bool, true, false}
 use mathlib.Core.List.{List, [], ◌∷◌, ◌++◌}
 use mathlib.Core.Path.{◌≡◌, refl, sym, ap, ◌∙◌}
-use denote.Enum.Declared.{tag_of}
-use types.Run.{OneOf, miss}
 use lib.Dec.{eqb, ltb}
 use lib.ListN.{length, take, drop, length-append, length-drop}
 use lib.Seq.{take-append_seam, length-take-le}
 use borrow.Author.Tests.{lt-ltb, le-ltb, eq-eqb, ne_eqb, ltb-true, ltb-false, eqb-true, eqb-false}
-use Rattle.frames.specs.contracts.Next as Cases
 use Rattle.frames.proofs.Nexts.{length_of, next_none, tells, room}
 use Rattle.frames.proofs.Streams.{Settled}
 use Rattle.frames.specs.Frames.{next_of}
@@ -59,11 +56,11 @@ module _ (held : List ℕ) (kept : ℕ) where
   rest_held h e = rw (lt-ltb kept most_held h, e)
 
 -- bytes that begin no frame count as a wrong tag
-pub no_begun : (x : Next) (h : List ℕ) → OneOf (0 ∷ 1 ∷ 2 ∷ []) (tag_of Cases.the_type x) → if_begun x h ≡ stopped
+pub no_begun : (x : Next) (h : List ℕ) → (x ≡ More → ⊥) → if_begun x h ≡ stopped
 no_begun (Whole len) h k = refl
 no_begun (Over len) h k = refl
 no_begun Wrong h k = refl
-no_begun More h k = absurd (miss (0 ∷ 1 ∷ 2 ∷ []) 3 tt k)
+no_begun More h k = absurd (k refl)
 
 -- ---- what is kept is what is left
 

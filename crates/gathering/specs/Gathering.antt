@@ -2,7 +2,7 @@
 use Rattle.std.specs.Prelude.{ℕ, ◌+◌, ◌-◌, cond, List, [], ◌++◌, ◌≡◌, ltb, eqb, length, take, drop}
 use Rattle.std.proofs.Math.Option.{Option, some, none}
 use Rattle.frames.specs.Frames.{next_of}
-use Rattle.frames.specs.Streams.{Rest, begun, passing, stopped, Step, step}
+use Rattle.frames.specs.Streams.{Rest, begun, passing, stopped, Step}
 use Rattle.frames.specs.declared.Next.{Next}
 use Rattle.frames.specs.declared.Next.TheVariants.{Whole, Over, Wrong, More}
 use Rattle.gathering.specs.declared.Due.{Due}

@@ -3,13 +3,10 @@ use Prim.Native.Nat.{ℕ, ◌^◌}
 use mathlib.Core.Bool.{false, cond, ◌&&◌}
 use mathlib.Core.List.{List, [], ◌∷◌, ◌++◌}
 use mathlib.Core.Path.{◌≡◌, refl, ap, ◌∙◌}
-use denote.Enum.Declared.{tag_of}
-use types.Run.{OneOf}
 use borrow.Author.Tests.{eq-eqb, lt-leb}
 use lib.Dec.{eqb, leb}
 use lib.Ieee.{Float}
 use lib.ListN.{length}
-use Rattle.book.specs.contracts.Answer as Cases
 use Rattle.book.proofs.Lengths.{held_fits}
 use Rattle.book.proofs.Refusals.{right_lengths, right_size}
 use Rattle.book.specs.Answers.{Test, ◌⇒◌, first, Buffers, unless, Does}
@@ -34,7 +31,7 @@ module _ (n t : ℕ) (f : Forced) (b : Buffers) where
 
   module _ {r : Answer} (judged : Judges (size_tests n b ++ free_tests n t) r) where
     -- the seat was refused
-    pub measure_kept : OneOf (1 ∷ 2 ∷ []) (tag_of Cases.the_type r) → Does (act n (Measure t f) b) r b
+    pub measure_kept : (r ≡ Taken → ⊥) → Does (act n (Measure t f) b) r b
     unfolding size_tests
     measure_kept h = keeps (size_tests n b) b (measure_call n t f b) (judged_stays (size_tests n b ++ free_tests n t) later tt judged h) h
 
@@ -49,7 +46,7 @@ module _ (n t : ℕ) (f : Forced) (b : Buffers) where
         unfolding size_tests
         decided = judged_behind (size_tests n b ++ free_tests n t) later tt judged told (rw is at own)
 
-        pub measure_refused : OneOf (1 ∷ 2 ∷ []) (tag_of Cases.the_type o) → Does (act n (Measure t f) b) o b
+        pub measure_refused : (o ≡ Taken → ⊥) → Does (act n (Measure t f) b) o b
         measure_refused h = keeps (size_tests n b) b (measure_call n t f b) decided h
 
         pub measure_done : o ≡ Taken → {r : Float} {b₁ b₂ : Buffers} → r ≡ one_over_root p → b₁ ≡ held (2 ^ n) (collapsed t f.outcome r (at b))

@@ -5,11 +5,8 @@ use mathlib.Core.List.{[], ◌∷◌, ◌++◌}
 use mathlib.Core.Path.{◌≡◌, refl, sym, ap, ◌∙◌, subst}
 use native.Mathlib.Nat.{zero-add}
 use native.Mathlib.Omega.{arith}
-use denote.Enum.Declared.{tag_of}
 use lib.Dec.{T}
 use lib.Ieee as Ieee
-use types.Run.{OneOf}
-use Rattle.book.specs.contracts.Answer as E
 use Rattle.book.proofs.Refusals.{numbered}
 use Rattle.book.specs.Answers.{value, says, Buffers, Outcome, outcome_of, Does}
 use Rattle.book.specs.Gates.{x_rule, noise_of, finite_tests}
@@ -41,7 +38,7 @@ pub flip_judged : {n t : ℕ} {noise : Noise} {b : Buffers} {s o r : Answer} →
 flip_judged {n} {t} {noise} {b} j k e = record { is = own_judged (size_tests n b) (free_tests n t) (finite_tests (noise_of noise)) (seats_numbered n t b) j k e }
 
 module _ {n t : ℕ} {noise : Noise} {b : Buffers} {r : Answer} (j : Judged n t noise b r) where
-  pub flip_kept : OneOf (1 ∷ 2 ∷ []) (tag_of E.the_type r) → Does (flip_of n t noise b) r b
+  pub flip_kept : (r ≡ Taken → ⊥) → Does (flip_of n t noise b) r b
   flip_kept h = keeps (size_tests n b) b (bit_flip_call n t noise b) j.is h
 
   module _ (e : r ≡ Taken) where

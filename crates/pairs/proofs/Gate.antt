@@ -3,10 +3,7 @@ use Prim.Native.Nat.{ℕ, ◌+◌, ◌^◌, ◌<◌}
 use mathlib.Core.List.{List, [], ◌∷◌, ◌++◌}
 use mathlib.Core.Path.{◌≡◌, ap}
 use native.Mathlib.Omega.{arith}
-use denote.Enum.Declared.{tag_of}
 use lib.Dec.{T}
-use types.Run.{OneOf}
-use Rattle.book.specs.contracts.Answer as E
 use Rattle.book.proofs.Refusals.{numbered}
 use Rattle.book.specs.Answers.{says, Test, Buffers, Outcome, outcome_of, Does}
 use Rattle.book.specs.Kernels.{size_tests, seat_tests, pair_call}
@@ -40,7 +37,7 @@ abbrev pub gate_of : (Pair → Pair) → ℕ → List Test → ℕ → ℕ → C
 gate_of rule most own n t c b = outcome_of (size_tests n b) b (pair_call rule most own n t c b)
 
 module _ {most n t : ℕ} {c : Controls} {b : Buffers} {own : List Test} {r : Answer} (j : Judged most own n t c b r) where
-  pub gate_kept : (rule : Pair → Pair) → OneOf (1 ∷ 2 ∷ []) (tag_of E.the_type r) → Does (gate_of rule most own n t c b) r b
+  pub gate_kept : (rule : Pair → Pair) → (r ≡ Taken → ⊥) → Does (gate_of rule most own n t c b) r b
   gate_kept rule h = keeps (size_tests n b) b (pair_call rule most own n t c b) j.is h
 
   module _ (e : r ≡ Taken) where

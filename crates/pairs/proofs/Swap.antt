@@ -5,10 +5,7 @@ use mathlib.Core.List.{[], ◌∷◌, ◌++◌}
 use mathlib.Core.Option.{none}
 use mathlib.Core.Path.{◌≡◌, refl, ap, ap₂, subst}
 use native.Mathlib.Omega.{arith}
-use denote.Enum.Declared.{tag_of}
 use lib.Dec.{leb}
-use types.Run.{OneOf}
-use Rattle.book.specs.contracts.Answer as E
 use Rattle.book.specs.Answers.{says, ◌⇒◌, Buffers, Outcome, call, outcome_of, Does}
 use Rattle.book.specs.Gates.{x_rule}
 use Rattle.book.specs.Kernels.{size_tests, swapped, swap_call}
@@ -34,7 +31,7 @@ module _ {n t u : ℕ} {b : Buffers} {r : Answer} (j : Judged n t u b r) where
   judged : Judges (size_tests n b ++ (swap_call n t u b).tests) r
   judged = subst (λ (x : Bool). Judges (size_tests n b ++ (x ⇒ 3 ∷ [])) r) (higher n t u j.order) j.is
 
-  pub swap_kept : OneOf (1 ∷ 2 ∷ []) (tag_of E.the_type r) → Does (swap_of n t u b) r b
+  pub swap_kept : (r ≡ Taken → ⊥) → Does (swap_of n t u b) r b
   swap_kept h = keeps (size_tests n b) b (swap_call n t u b) judged h
 
   module _ (e : r ≡ Taken) where

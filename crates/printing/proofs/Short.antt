@@ -34,7 +34,8 @@ decimal_in_short zero n = omega arith
 decimal_in_short (suc k) n =
     let high = decimal_in k (n / 10) in
     let low = hex_digit_ascii (n % 10) ∷ [] in
-    either (ltb n 10) (suc k) (hex_digit_ascii n ∷ []) (high ++ low) (omega arith) (omega (arith, both high low k 1 (decimal_in_short k (n / 10)) (omega arith)))
+    either (ltb n 10) (suc k) (hex_digit_ascii n ∷ []) (high ++ low) (omega arith)
+    (omega (arith, both high low k 1 (decimal_in_short k (n / 10)) (omega arith)))
 
 decimal_short : (n : ℕ) → length (decimal n) ≤ 20
 unfolding decimal

@@ -7,8 +7,7 @@ use mathlib.Core.Bool.{Bool, true, false, not, true≢false}
 use borrow.Author.Tests.{lt-ltb, le-ltb}
 use lib.IntN.{pos}
 use lib.Dec.{T, eqb-suc-zero}
-use lib.Ieee.{Float, nan, inf, fin, Format, binary64, up, down, div, lt}
-use lib.Ieee.{of_bits}
+use lib.Ieee.{Float, nan, inf, fin, Format, up, down, lt}
 use lib.Ieee.Fits.{up_pos}
 use lib.Ieee.Exact.{HasValue}
 use Rattle.numbers.specs.Fused.{root}

@@ -1,12 +1,9 @@
 -- A call after its judge: one that passed does its work, and another keeps what was there; and one list of tests judged behind another. Assumes nothing.
 use Prim.Native.Nat.{ℕ, zero, suc}
-use mathlib.Core.List.{List, [], ◌∷◌, ◌++◌, append_assoc}
+use mathlib.Core.List.{List, [], ◌++◌, append_assoc}
 use mathlib.Core.Path.{◌≡◌, refl, sym, ap, ◌∙◌, subst}
 use native.Mathlib.Omega.{arith}
-use denote.Enum.Declared.{tag_of}
 use lib.Dec.{T}
-use types.Run.{OneOf, miss}
-use Rattle.book.specs.contracts.Answer as E
 use Rattle.book.proofs.Refusals.{numbered, first_clear, first_stays}
 use Rattle.book.specs.Answers.{taken, says, Test, first, Buffers, Call, accepted, unless, outcome_of, Does}
 use Rattle.book.specs.declared.Answer.{Answer}
@@ -33,11 +30,11 @@ module _ (ts us : List Test) (w : T (numbered ts)) where
   stays r j (suc k) f other = record { is = j.is ∙ ap verdict (f ∙ sym (first_stays ts us f)) }
 
   -- an answer that is not Taken stays, whatever follows
-  pub judged_stays : {r : Answer} → Judges ts r → OneOf (1 ∷ 2 ∷ []) (tag_of E.the_type r) → Judges (ts ++ us) r
+  pub judged_stays : {r : Answer} → Judges ts r → (r ≡ Taken → ⊥) → Judges (ts ++ us) r
   judged_stays {r} j h = stays r j (first ts) refl (by r h)
     where
-      by : (r : Answer) → OneOf (1 ∷ 2 ∷ []) (tag_of E.the_type r) → says r ≡ taken → ⊥
-      by Taken h e = miss (1 ∷ 2 ∷ []) 0 tt h
+      by : (r : Answer) → (r ≡ Taken → ⊥) → says r ≡ taken → ⊥
+      by Taken h e = h refl
       by (Value v) h e = let z : ◌≡◌ {A = ℕ} 0 1 = (cc) in omega arith
       by (Refused q) h e = let z : ◌≡◌ {A = ℕ} 0 1 = (cc) in omega arith
 
@@ -73,11 +70,11 @@ module _ (sizes : List Test) (b : Buffers) (c : Call) {r : Answer} (j : Judges (
       by (suc k) h = absurd (omega arith)
 
   -- one did: its number, and what was there
-  pub keeps : OneOf (1 ∷ 2 ∷ []) (tag_of E.the_type r) → Does (outcome_of sizes b c) r b
+  pub keeps : (r ≡ Taken → ⊥) → Does (outcome_of sizes b c) r b
   keeps h = by r h (first (sizes ++ c.tests)) j.is
     where
-      by : (r : Answer) → OneOf (1 ∷ 2 ∷ []) (tag_of E.the_type r) → (k : ℕ) → says r ≡ verdict k → Does (unless k b c) r b
-      by Taken h k e = absurd (miss (1 ∷ 2 ∷ []) 0 tt h)
+      by : (r : Answer) → (r ≡ Taken → ⊥) → (k : ℕ) → says r ≡ verdict k → Does (unless k b c) r b
+      by Taken h k e = absurd (h refl)
       by (Value v) h zero e = absurd (let z : ◌≡◌ {A = ℕ} 0 1 = (cc) in omega arith)
       by (Value v) h (suc k) e = absurd (let z : ◌≡◌ {A = ℕ} 0 1 = (cc) in omega arith)
       by (Refused q) h zero e = absurd (let z : ◌≡◌ {A = ℕ} 0 1 = (cc) in omega arith)

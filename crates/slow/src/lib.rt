@@ -5,7 +5,7 @@
 
 ghost use Rattle.std.specs.Prelude.{◌≡◌, ◌^◌, ◌<◌};
 ghost use Rattle.book.specs.Kernels as Book;
-ghost use Rattle.book.specs.Lent.{here, shown, shown_here};
+ghost use Rattle.book.specs.Lent.{after, here, shown, shown_here};
 ghost use Rattle.book.specs.State.{at, held, placed};
 ghost use Rattle.slow_rules.specs.Rules.{rule_of};
 ghost use Rattle.slow.specs.Slow.{leaves, second_of, There, Ready, Reaches};
@@ -99,8 +99,8 @@ pub fn fill(
     reals: &mut [f64],
     imags: &mut [f64],
 )
-    requires ready { Ready n target (second_of deed target) (shown_here sr si) }
-    requires ready_2 { Ready n target target (here reals imags) }
+    requires inputs { Ready n target (second_of deed target) (shown_here sr si) }
+    requires outputs { Ready n target target (here reals imags) }
     ensures { after reals imags ≡ held (2 ^ n) (leaves deed target controls (at (shown sr si))) }
 {
     let size: usize = 1 << n;

@@ -1,11 +1,8 @@
 -- A gate that has a rule, judged: its own tests behind its seat's, what the engine asks, and what its answer then does. Assumes nothing.
 use Prim.Native.Nat.{ℕ, ◌^◌}
-use mathlib.Core.List.{[], ◌∷◌, ◌++◌}
+use mathlib.Core.List.{◌++◌}
 use mathlib.Core.Path.{◌≡◌, ap}
-use denote.Enum.Declared.{tag_of}
 use lib.Dec.{T}
-use types.Run.{OneOf}
-use Rattle.book.specs.contracts.Answer as E
 use Rattle.book.proofs.Refusals.{numbered}
 use Rattle.book.specs.Answers.{says, Buffers, Outcome, outcome_of, Does}
 use Rattle.book.specs.Kernels.{size_tests, seat_tests}
@@ -41,7 +38,7 @@ module _ {rule : Rule} {n t : ℕ} {c : Controls} {b out : Buffers} {r : Answer}
   abbrev pair_outcome : Outcome
   pair_outcome = outcome_of (into_tests n b out) out (rule_call rule n t c b)
 
-  pub pair_kept : OneOf (1 ∷ 2 ∷ []) (tag_of E.the_type r) → Does pair_outcome r out
+  pub pair_kept : (r ≡ Taken → ⊥) → Does pair_outcome r out
   pair_kept h = keeps (into_tests n b out) out (rule_call rule n t c b) j.is h
 
   module _ (e : r ≡ Taken) where

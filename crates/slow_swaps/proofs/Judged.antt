@@ -4,11 +4,8 @@ use mathlib.Core.Bool.{Bool, true, false, cond, ◌||◌}
 use mathlib.Core.List.{[], ◌∷◌, ◌++◌}
 use mathlib.Core.Path.{◌≡◌, refl, sym, ap, ◌∙◌, subst}
 use borrow.Author.Tests.{leb-false}
-use denote.Enum.Declared.{tag_of}
 use lib.Dec.{leb}
 use lib.Ieee as Ieee
-use types.Run.{OneOf}
-use Rattle.book.specs.contracts.Answer as E
 use Rattle.book.proofs.Refusals.{clear, clear_start, neither, sizes_numbered}
 use Rattle.book.proofs.Tables.{held_only}
 use Rattle.book.specs.Answers.{value, says, ◌⇒◌, first, Buffers, Outcome, outcome_of, Does}
@@ -40,7 +37,7 @@ module _ {n t u : ℕ} {b out : Buffers} {r : Answer} (j : SwapJudged n t u b ou
   abbrev swap_outcome : Outcome
   swap_outcome = outcome_of (into_tests n b out) out (swap_call n t u b)
 
-  pub swap_kept : OneOf (1 ∷ 2 ∷ []) (tag_of E.the_type r) → Does swap_outcome r out
+  pub swap_kept : (r ≡ Taken → ⊥) → Does swap_outcome r out
   swap_kept h = keeps (into_tests n b out) out (swap_call n t u b) j.is h
 
   module _ (e : r ≡ Taken) where
@@ -72,7 +69,7 @@ module _ {n t : ℕ} {noise : Noise} {b out : Buffers} {r : Answer} (j : FlipJud
   abbrev flip_outcome : Outcome
   flip_outcome = outcome_of (into_tests n b out) out (bit_flip_call n t noise b)
 
-  pub flip_kept : OneOf (1 ∷ 2 ∷ []) (tag_of E.the_type r) → Does flip_outcome r out
+  pub flip_kept : (r ≡ Taken → ⊥) → Does flip_outcome r out
   flip_kept h = keeps (into_tests n b out) out (bit_flip_call n t noise b) j.is h
 
   module _ (e : r ≡ Taken) where

@@ -6,12 +6,9 @@ use mathlib.Core.Option.{none}
 use mathlib.Core.Path.{◌≡◌, refl, sym, ap, ◌∙◌, subst}
 use native.Mathlib.Nat.{lt_of_lt_of_le}
 use borrow.Author.Tests.{le-leb, lt-leb, leb-false}
-use denote.Enum.Declared.{tag_of}
 use mir.Syntax.{w64}
 use mir.Val.{Fits}
-use types.Run.{OneOf}
 use lib.Dec.{leb}
-use Rattle.book.specs.contracts.Answer as Cases
 use Rattle.book.proofs.Refusals.{clear, right_lengths}
 use Rattle.book.specs.Answers.{says, ◌⇒◌, first, Buffers, Call, call, Does}
 use Rattle.book.specs.Gates.{finite_tests}
@@ -101,15 +98,15 @@ module _ (m : Matrix) (n target : ℕ) (b : Buffers) where
   abbrev pub work : Call
   work = call (leb n target ⇒ 3 ∷ finite_tests (numbers_of m)) none (held_dense n (crossing m target))
 
-  pub gate_judged : {s o r : Answer} → Judges (matrix_tests (entries n) n b ++ free_tests n target) s → Judges (finite_tests (numbers_of m)) o → r ≡ first_of s o
-      → Judges (matrix_tests (entries n) n b ++ work.tests) r
+  pub gate_judged : {s o r : Answer} → Judges (matrix_tests (entries n) n b ++ free_tests n target) s → Judges (finite_tests (numbers_of m)) o
+      → r ≡ first_of s o → Judges (matrix_tests (entries n) n b ++ work.tests) r
   unfolding matrix_tests
   gate_judged p q e =
       subst (λ (x : Answer). Judges (matrix_tests (entries n) n b ++ work.tests) x) (sym e)
       (judged_then (matrix_tests (entries n) n b ++ free_tests n target) (finite_tests (numbers_of m)) tt p q)
 
   module _ {r : Answer} (j : Judges (matrix_tests (entries n) n b ++ work.tests) r) where
-    pub gate_kept : OneOf (1 ∷ 2 ∷ []) (tag_of Cases.the_type r) → Does (gate_matrix m n target b) r b
+    pub gate_kept : (r ≡ Taken → ⊥) → Does (gate_matrix m n target b) r b
     gate_kept h = keeps (matrix_tests (entries n) n b) b work j h
 
     module _ (told : r ≡ Taken) where

@@ -1,6 +1,6 @@
 -- Words one behind the other, byte after byte and run after run; a line at the start of a buffer; and the fewest decimal digits by recursion. Assumes nothing.
 use Prim.Native.Nat.{ℕ, zero, suc, ◌+◌, ◌-◌, ◌*◌, ◌/◌, ◌%◌, ◌^◌, ◌≤◌, ◌<◌}
-use native.Mathlib.Nat.{add-zero, add-suc, suc-add, zero-add, eq-zero-or-pos, one-le-pow, pow-le-pow_right}
+use native.Mathlib.Nat.{add-zero, zero-add, eq-zero-or-pos, one-le-pow, pow-le-pow_right}
 use native.Mathlib.Numerals.{add-one}
 use native.Mathlib.Omega.{arith}
 use mathlib.Core.Logic.{⊎_elim}
@@ -11,7 +11,7 @@ use lib.ListN.{length, drop, get_or, set, length-append, drop_of_length-le}
 use lib.Seq.{sets, length-sets, sets-eq, drop-cons, length-take-le}
 use borrow.Author.Tests.{lt-ltb, le-ltb}
 use Rattle.io.specs.Digits.{hex_digit_ascii, last_digits, IsDigitCount}
-use Rattle.stores.proofs.Stored.{store_then, store_first}
+use Rattle.stores.proofs.Stored.{store_then}
 use Rattle.stores.specs.Stores.{store}
 use Rattle.words.specs.Words.{decimal_in, decimal, bits, mark_digits, Added, Line}
 
@@ -116,7 +116,8 @@ decimal_is k n h q = fewest 20 k n h q
 
 -- ---- hex digits
 
-pub bits_is : (x : Float) {n : ℕ} {l l₁ : List ℕ} {at at₁ : ℕ} → n ≡ to_bits binary64 x → Added (last_digits 16 16 n) 16 l at at₁ l₁ → Added (bits x) 16 l at at₁ l₁
+pub bits_is : (x : Float) {n : ℕ} {l l₁ : List ℕ} {at at₁ : ℕ} → n ≡ to_bits binary64 x
+    → Added (last_digits 16 16 n) 16 l at at₁ l₁ → Added (bits x) 16 l at at₁ l₁
 unfolding bits
 bits_is x e p = rw (← e) p
 

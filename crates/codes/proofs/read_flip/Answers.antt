@@ -1,7 +1,6 @@
 -- `codes::read_flip` reads a bit flip: the field's answer decides, and then that nothing stands behind it. Assumes nothing.
-use mathlib.Core.Path.{sym, ap, ◌∙◌}
+use mathlib.Core.Path.{sym, ◌∙◌}
 use lib.ListN.{length}
-use borrow.Author.Rules.{rules}
 use borrow.Author.Tests.{eq-eqb, ne_eqb}
 use Rattle.book.specs.declared.Gate.TheVariants.{BitFlip}
 use Rattle.masked.proofs.Answered.{noisy_by}

@@ -4,9 +4,8 @@ use native.Mathlib.Omega.{arith}
 use mathlib.Core.List.{List}
 use mathlib.Core.Path.{◌≡◌, ap, ◌∙◌}
 use lib.ListN.{drop}
-use borrow.Author.Rules.{rules}
 use Rattle.book.specs.Records.{Row, read_row}
-use Rattle.shapes.proofs.Rows.{plain_rows, angled_rows, low_row, high_row}
+use Rattle.shapes.proofs.Rows.{angled_rows}
 use Rattle.shapes.specs.Gates.{made_of}
 use Rattle.codes.proofs.read_gate.Goals as goal
 

@@ -1,8 +1,7 @@
 -- `codes::read_measure` reads a measurement: the field's answer decides, and then that nothing stands behind it. Assumes nothing.
-use mathlib.Core.Path.{sym, ap, ◌∙◌}
+use mathlib.Core.Path.{sym, ◌∙◌}
 use native.Mathlib.Omega.{arith}
 use lib.ListN.{length}
-use borrow.Author.Rules.{rules}
 use borrow.Author.Tests.{eq-eqb, ne_eqb}
 use Rattle.book.specs.declared.Gate.TheVariants.{Measure}
 use Rattle.wire.specs.Bytes.{Bytes}
@@ -11,23 +10,23 @@ use Rattle.codes.proofs.read_measure.Goals as goal
 
 pub returns-in_default : goal.returns-in_default
 returns-in_default c = let a = c.args in
-    let are : Bytes a.bytes.now = λ j. omega (arith, c.shared_slice_known-1.given j) in
-    rw (forced_by a.bytes.now a.target are a.at Measure, sym c.number_field.ensures.0 ∙ c.in_default.is)
+    let are : Bytes a.bytes.now = λ j. omega (arith, c.type_inv.bytes j) in
+    rw (forced_by a.bytes.now a.target are a.at Measure, sym c.number_field.ensures.is ∙ c.in_default.is)
 
 pub returns-then-bytes-behind : goal.returns-then-bytes-behind
 returns-then-bytes-behind c = let a = c.args in
-    let are : Bytes a.bytes.now = λ j. omega (arith, c.shared_slice_known-1.given j) in
+    let are : Bytes a.bytes.now = λ j. omega (arith, c.type_inv.bytes j) in
     rw (
       forced_by a.bytes.now a.target are a.at Measure,
-      sym c.number_field.ensures.0 ∙ c.in-Number.is,
+      sym c.number_field.ensures.is ∙ c.in-Number.is,
       ne_eqb (length a.bytes.now) c.in-Number.behind c.if-bytes-behind.true,
     )
 
 pub returns : goal.returns
 returns c = let a = c.args in
-    let are : Bytes a.bytes.now = λ j. omega (arith, c.shared_slice_known-1.given j) in
+    let are : Bytes a.bytes.now = λ j. omega (arith, c.type_inv.bytes j) in
     rw (
       forced_by a.bytes.now a.target are a.at Measure,
-      sym c.number_field.ensures.0 ∙ c.in-Number.is,
+      sym c.number_field.ensures.is ∙ c.in-Number.is,
       eq-eqb (length a.bytes.now) c.in-Number.behind c.if-bytes-behind.false,
     )

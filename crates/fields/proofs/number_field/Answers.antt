@@ -19,8 +19,8 @@ no_number : (n j k : ℕ) → Missing ≡ Number n j → n < k
 no_number n j k e = let z : ◌≡◌ {A = ℕ} 0 1 = cc in absurd (omega arith)
 
 pub returns-then-starts_at : goal.returns-then-starts_at
-returns-then-starts_at c = let there : (let a = c.args in starts a.tag a.width (drop a.at a.bytes.now) ≡ true) = sym c.starts_at.ensures ∙ c.if-starts_at.true in
-    let a = c.args in
+returns-then-starts_at c = let a = c.args in
+    let there : (starts a.tag a.width (drop a.at a.bytes.now) ≡ true) = sym c.starts_at.ensures ∙ c.if-starts_at.true in
     let n = c.number_at in
     let behind = a.at + (3 + a.width) in
     let narrow = le-leb a.width 8 c.if-width-gt-WIDEST.false in

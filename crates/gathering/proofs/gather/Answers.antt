@@ -3,9 +3,7 @@ use Prim.Native.Nat.{ℕ, ◌<◌}
 use native.Mathlib.Omega.{arith}
 use mathlib.Core.List.{List, [], ◌++◌, append-nil}
 use mathlib.Core.Path.{◌≡◌, refl, sym, ap, ◌∙◌}
-use lib.ListN.{length, take}
-use lib.Seq.{length-take-le}
-use borrow.Author.Rules.{rules}
+use lib.ListN.{take}
 use Rattle.frames.proofs.Nexts.{next_none}
 use Rattle.frames.specs.Frames.{next_of}
 use Rattle.frames.specs.Streams.{Rest, stopped, step}
@@ -53,5 +51,5 @@ returns-in_default c = let few : (c.args.kept < most_held) = omega arith in
     let tells : (c.next_frame.result ≡ next_of first) = c.next_frame.ensures ∙ ap next_of (append-nil first) in
     let a = c.args in
     behind a.held.now a.kept a.piece.now
-    (rest_held a.held.now a.kept few (sym tells) ∙ no_begun c.next_frame.result first c.in_default.keys2)
+    (rest_held a.held.now a.kept few (sym tells) ∙ no_begun c.next_frame.result first c.in_default.not-More)
     (c.waiting-in_default.ensures stopped a.piece.now refl)

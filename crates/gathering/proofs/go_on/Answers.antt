@@ -4,71 +4,103 @@ use native.Mathlib.Omega.{arith}
 use mathlib.Core.List.{List, ◌++◌}
 use mathlib.Core.Path.{◌≡◌, refl, sym, ◌∙◌}
 use lib.ListN.{length, length-append}
-use borrow.Author.Rules.{rules}
-use Rattle.frames.proofs.Nexts.{length_of, tells}
+use Rattle.frames.proofs.Nexts.{tells}
 use Rattle.frames.specs.Frames.{next_of}
 use Rattle.frames.specs.Streams.{begun, stopped, step, frame_of}
 use Rattle.frames.specs.declared.Next.{Next}
+use Rattle.frames.specs.declared.Next.TheVariants.{Whole, Over, More}
+use Rattle.wire.specs.Bytes.{Bytes}
 use Rattle.gathering.specs.Gathering.{most_held, Gathers}
 use Rattle.gathering.specs.declared.Gathered.{Gathered}
 use Rattle.gathering.proofs.Kept.{Framed, goes_on}
 use Rattle.gathering.proofs.go_on.Goals as goal
 
--- `next` is the place behind the call that tells what the bytes begin with
-module _ (next : tie.After-next-frame) where
-  abbrev first : List ℕ
-  first = next.before.before.before.args.first.now
+-- `x` is what the bytes begin with, as the call tells
+module _ (first piece : List ℕ) {x : Next} (tell : x ≡ next_of (first ++ piece)) where
+  begins : {y : Next} → x ≡ y → next_of (first ++ piece) ≡ y
+  begins e = sym tell ∙ e
 
-  abbrev piece : List ℕ
-  piece = next.before.before.before.args.piece.now
-
-  begins : {x : Next} → next.next-frame.result ≡ x → next_of (first ++ piece) ≡ x
-  begins e = sym next.next-frame.ensures ∙ e
-
-  fits : {len : ℕ} → len ≡ length_of (first ++ piece) → Framed first len
-  fits is =
-      goes_on first piece next.before.before.before.pre
-      (λ i. omega (arith, next.before.before.shared-slice-known.given i)) (λ i. omega (arith, next.before.shared-slice-known2.given i)) is
-
-  gathers : {x : Next} {r : Gathered} → next.next-frame.result ≡ x → Gathers (frame_of x first piece) (first ++ piece) r
+  gathers : {y : Next} {r : Gathered} → x ≡ y → Gathers (frame_of y first piece) (first ++ piece) r
       → Gathers (step (begun first) piece) (first ++ piece) r
   unfolding step
   gathers e h = rw (begins e) h
 
+module _ (first piece : List ℕ) (more : next_of first ≡ More) (fs : Bytes first) (ps : Bytes piece) {x : Next} (tell : x ≡ next_of (first ++ piece)) where
+  whole : {len : ℕ} → x ≡ Whole len → Framed first len
+  whole e = goes_on first piece more fs ps (tells (first ++ piece) (begins first piece tell e)).0
+
+  over : {len : ℕ} → x ≡ Over len → Framed first len
+  over e = goes_on first piece more fs ps (tells (first ++ piece) (begins first piece tell e))
+
 pub overflow_add-len : goal.overflow_add-len
-overflow_add-len c = let whole : (Framed (first c) c.in-Whole.len) = fits c (tells (first c ++ piece c) (begins c c.in-Whole.is)).0 in
-    omega (arith, whole.two)
+overflow_add-len c =
+    let a = c.args in
+    let framed : Framed a.first.now c.in-Whole.len =
+    whole a.first.now a.piece.now c.requires (λ i. omega (arith, c.type_inv.first i)) (λ i. omega (arith, c.type_inv.piece i))
+    c.next_frame.ensures c.in-Whole.is in
+    omega (arith, framed.two)
 
 pub overflow_sub-len : goal.overflow_sub-len
-overflow_sub-len c = let whole : (Framed (first c) c.in-Whole.len) = fits c (tells (first c ++ piece c) (begins c c.in-Whole.is)).0 in
-    whole.within
+overflow_sub-len c =
+    let a = c.args in
+    let framed : Framed a.first.now c.in-Whole.len =
+    whole a.first.now a.piece.now c.requires (λ i. omega (arith, c.type_inv.first i)) (λ i. omega (arith, c.type_inv.piece i))
+    c.next_frame.ensures c.in-Whole.is in
+    framed.within
 
 pub overflow_add-len-in-Over : goal.overflow_add-len-in-Over
-overflow_add-len-in-Over c = let over : (Framed (first c) c.in-Over.len) = fits c (tells (first c ++ piece c) (begins c c.in-Over.is)) in
-    omega (arith, over.two)
+overflow_add-len-in-Over c =
+    let a = c.args in
+    let framed : Framed a.first.now c.in-Over.len =
+    over a.first.now a.piece.now c.requires (λ i. omega (arith, c.type_inv.first i)) (λ i. omega (arith, c.type_inv.piece i))
+    c.next_frame.ensures c.in-Over.is in
+    omega (arith, framed.two)
 
 pub overflow_sub-len-in-Over : goal.overflow_sub-len-in-Over
-overflow_sub-len-in-Over c = let over : (Framed (first c) c.in-Over.len) = fits c (tells (first c ++ piece c) (begins c c.in-Over.is)) in
-    over.within
+overflow_sub-len-in-Over c =
+    let a = c.args in
+    let framed : Framed a.first.now c.in-Over.len =
+    over a.first.now a.piece.now c.requires (λ i. omega (arith, c.type_inv.first i)) (λ i. omega (arith, c.type_inv.piece i))
+    c.next_frame.ensures c.in-Over.is in
+    framed.within
 
 pub read_past-requires : goal.read_past-requires
-read_past-requires c = let over : (Framed (first c) c.in-Over.len) = fits c (tells (first c ++ piece c) (begins c c.in-Over.is)) in
-    omega (arith, over.two)
+read_past-requires c =
+    let a = c.args in
+    let framed : Framed a.first.now c.in-Over.len =
+    over a.first.now a.piece.now c.requires (λ i. omega (arith, c.type_inv.first i)) (λ i. omega (arith, c.type_inv.piece i))
+    c.next_frame.ensures c.in-Over.is in
+    omega (arith, framed.two)
 
 pub overflow_cast-have : goal.overflow_cast-have
-overflow_cast-have c = let few : (length (first c) + length (piece c) < most_held) = omega (arith, tells (first c ++ piece c) (begins c c.in-More.is), length-append (first c) (piece c)) in
+overflow_cast-have c =
+    let a = c.args in
+    let few : length a.first.now + length a.piece.now < most_held =
+    omega (
+      arith,
+      tells (a.first.now ++ a.piece.now) (begins a.first.now a.piece.now c.next_frame.ensures c.in-More.is),
+      length-append a.first.now a.piece.now,
+    ) in
     omega (arith, few)
 
 pub returns-in-Whole : goal.returns-in-Whole
-returns-in-Whole c = let is = c.in-Whole.is in
-    gathers c is (c.complete.ensures (first c ++ piece c) _ refl (begins c is))
+returns-in-Whole c =
+    let a = c.args in
+    gathers a.first.now a.piece.now c.next_frame.ensures c.in-Whole.is
+    (c.complete.ensures (a.first.now ++ a.piece.now) _ refl (begins a.first.now a.piece.now c.next_frame.ensures c.in-Whole.is))
 
 pub returns-in-Over : goal.returns-in-Over
-returns-in-Over c = gathers c c.in-Over.is (c.read_past.ensures (first c ++ piece c))
+returns-in-Over c =
+    let a = c.args in
+    gathers a.first.now a.piece.now c.next_frame.ensures c.in-Over.is (c.read_past.ensures (a.first.now ++ a.piece.now))
 
 pub returns-in-Wrong : goal.returns-in-Wrong
-returns-in-Wrong c = gathers c c.in-Wrong.is (c.waiting.ensures stopped (first c ++ piece c) refl)
+returns-in-Wrong c =
+    let a = c.args in
+    gathers a.first.now a.piece.now c.next_frame.ensures c.in-Wrong.is (c.waiting.ensures stopped (a.first.now ++ a.piece.now) refl)
 
 pub returns-in-More : goal.returns-in-More
-returns-in-More c = gathers c c.in-More.is
-    (c.waiting-in-More.ensures (begun (first c ++ piece c)) (first c ++ piece c) (sym (length-append (first c) (piece c))))
+returns-in-More c =
+    let a = c.args in
+    gathers a.first.now a.piece.now c.next_frame.ensures c.in-More.is
+    (c.waiting-in-More.ensures (begun (a.first.now ++ a.piece.now)) (a.first.now ++ a.piece.now) (sym (length-append a.first.now a.piece.now)))

@@ -13,8 +13,11 @@ use Rattle.stores.proofs.store_floats.Goals as goal
 pub loop-i-preserved : goal.loop-i-preserved
 loop-i-preserved c = let a = c.args in
     let l = c.loop-i in
-    let same = ap (λ (n : ℕ). store l.out (a.at + 8 * l.i) (bytes 8 n)) c.bits_of.ensures in
-    (search rules, search rules, floats_step a.numbers.now nan a.at l.out c.store_number.new.out l.i (omega arith) (c.store_number.ensures ∙ same) ∙ l.invariant.2)
+    let same = ap (λ (n : ℕ). store l.out (a.at + 8 * l.i) (bytes 8 n)) c.bits_of.ensures in (
+      search rules,
+      search rules,
+      floats_step a.numbers.now nan a.at l.out c.store_number.new.out l.i (omega arith) (c.store_number.ensures ∙ same) ∙ l.invariant.2,
+    )
 
 pub returns : goal.returns
 returns c = let a = c.args in

@@ -11,5 +11,6 @@ use Rattle.stores.proofs.store_start.Goals as goal
 
 pub returns : goal.returns
 returns c = let a = c.args in
-    store_then a.out.now c.store_number.new.out c.store_number-2.new.out a.at (a.at + 1) (bytes 1 a.tag) (bytes 2 a.len) c.store_number.ensures c.store_number-2.ensures (omega arith)
+    store_then a.out.now c.store_number.new.out c.store_number-2.new.out a.at (a.at + 1) (bytes 1 a.tag) (bytes 2 a.len)
+    c.store_number.ensures c.store_number-2.ensures (omega arith)
     ∙ ap (λ (t : ℕ). store a.out.now a.at (t ∷ bytes 2 a.len)) (div-one a.tag)

@@ -1,14 +1,9 @@
 -- `summands::clear_row` meets its contract: one place more is filled in each turn. Assumes nothing.
 use Prim.Native.Nat.{◌-◌, ◌≤◌}
-use mathlib.Core.Path.{refl}
-use borrow.Author.Rules.{rules}
-use native.Mathlib.Omega.{arith}
 use Rattle.book.specs.Answers.{buffers}
 use Rattle.book.specs.Gates.{nought}
 use Rattle.book.specs.State.{amplitude}
 use Rattle.matrices.specs.Filled.{Filled}
-use Rattle.matrices.proofs.Fills.{zero_is}
-use Rattle.matrices.proofs.Fills.{nothing, one_more, done}
 use Rattle.summands.proofs.clear_row.Given as goal
 
 abbrev pub invariant-loop-j : goal.invariant-loop-j

@@ -1,10 +1,9 @@
 -- `words::add` stores byte after byte: what is left to store, stored, gives the whole. Assumes nothing.
-use Prim.Native.Nat.{◌+◌, ◌-◌, ◌≤◌}
+use Prim.Native.Nat.{◌+◌}
 use native.Mathlib.Omega.{arith}
-use mathlib.Core.Path.{◌≡◌, sym, ◌∙◌}
-use lib.ListN.{length, drop, length-set}
-use Rattle.stores.specs.Stores.{store}
-use Rattle.words.proofs.Writing.{stored_none, stored_all, stored_step}
+use mathlib.Core.Path.{sym, ◌∙◌}
+use lib.ListN.{length-set}
+use Rattle.words.proofs.Writing.{stored_none, stored_step}
 use borrow.Author.Rules.{rules}
 use Rattle.words.proofs.add.Goals as goal
 

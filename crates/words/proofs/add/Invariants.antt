@@ -1,15 +1,14 @@
 -- `words::add` stores byte after byte: what is left to store, stored, gives the whole. Assumes nothing.
 use Prim.Native.Nat.{◌+◌, ◌-◌, ◌≤◌}
-use native.Mathlib.Omega.{arith}
-use mathlib.Core.Path.{◌≡◌, sym, ◌∙◌}
-use lib.ListN.{length, drop, length-set}
+use mathlib.Core.Path.{◌≡◌}
+use lib.ListN.{length, drop}
 use Rattle.stores.specs.Stores.{store}
-use Rattle.words.proofs.Writing.{stored_none, stored_all, stored_step}
-use borrow.Author.Rules.{rules}
 use Rattle.words.proofs.add.Given as goal
 
 abbrev pub invariant-loop-i : goal.invariant-loop-i
-invariant-loop-i l = (l.i ≤ length l.words) × (length l.out ≡ length l.initial.out) × (store l.out (l.at + l.i) (drop l.i l.words) ≡ store l.initial.out l.at l.words)
+invariant-loop-i l =
+    (l.i ≤ length l.words) × (length l.out ≡ length l.initial.out)
+    × (store l.out (l.at + l.i) (drop l.i l.words) ≡ store l.initial.out l.at l.words)
 
 abbrev pub decreases-loop-i : goal.decreases-loop-i
 decreases-loop-i l = length l.words - l.i

@@ -1,5 +1,4 @@
 -- `words::add_bits` stores the sixteen digits of the bits. Assumes nothing.
-use borrow.Author.Rules.{rules}
 use Rattle.words.proofs.Writing.{bits_is}
 use Rattle.words.proofs.add_bits.Goals as goal
 

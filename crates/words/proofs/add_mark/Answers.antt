@@ -1,5 +1,4 @@
 -- `words::add_mark` stores the eight digits of a mark. Assumes nothing.
-use borrow.Author.Rules.{rules}
 use Rattle.words.proofs.Writing.{mark_is}
 use Rattle.words.proofs.add_mark.Goals as goal
 

@@ -4,13 +4,12 @@ use native.Mathlib.Omega.{arith}
 use mathlib.Core.Path.{◌∙◌}
 use Rattle.words.specs.Words.{decimal}
 use Rattle.words.proofs.Writing.{these, few, decimal_is}
-use borrow.Author.Rules.{rules}
 use Rattle.words.proofs.add_number.Goals as goal
 
 pub returns : goal.returns
-returns c = let at_most : (c.decimal-k.result ≤ 20) = few 10 1 20 c.decimal-k.result c.args.n (omega arith) (omega arith) (omega arith) c.decimal-k.ensures.1.0.2 in
+returns c =
     let d = c.decimal-k in
     let n = c.args.n in
-    let most = at_most in
-    these (decimal n) 20 (d.ensures.1.1 ∙ decimal_is d.result n most d.ensures.1.0)
-    (omega (arith, most, d.ensures.0.1)) c.add.ensures
+    let most : d.result ≤ 20 = few 10 1 20 d.result n (omega arith) (omega arith) (omega arith) d.ensures.len.2 in
+    these (decimal n) 20 (d.ensures.digits ∙ decimal_is d.result n most d.ensures.len)
+    (omega (arith, most, d.ensures.in_bounds.1)) c.add.ensures

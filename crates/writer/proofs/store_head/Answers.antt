@@ -1,5 +1,4 @@
 -- `writer::store_head` stores fields 01 to 04, one behind the other. Assumes nothing.
-use borrow.Author.Rules.{rules}
 use Rattle.stores.proofs.Stored.{stored_then}
 use Rattle.writer.proofs.store_head.Goals as goal
 

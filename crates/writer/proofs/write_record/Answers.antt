@@ -1,11 +1,10 @@
 -- `writer::write_record` meets the book's writing of a record: the record's bytes in front and the rest untouched, or refusal 12 and nothing
 -- touched. Assumes nothing.
-use native.Mathlib.Omega.{arith}
-use borrow.Author.Rules.{rules}
-use Rattle.writer.proofs.Whole.{no_room, wrote}
+use Rattle.writer.proofs.Whole.{wrote}
 use Rattle.writer.proofs.write_record.Goals as goal
 
 pub returns : goal.returns
 returns c = let a = c.args in
-    wrote a.it a.out.now c.parts_of-parts.result c.parts_of-parts.ensures c.size_of-size.result c.size_of-size.ensures _ _ _ _
-    c.if-out-size.false c.store_head-behind.ensures c.store_shape.ensures
+    let both = wrote a.it a.out.now c.parts_of-parts.result c.parts_of-parts.ensures c.size_of-size.result c.size_of-size.ensures _ _ _ _
+    c.if-out-size.false c.store_head-behind.ensures c.store_shape.ensures in
+    record { answers = both.0; leaves = both.1 }

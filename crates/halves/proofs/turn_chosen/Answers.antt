@@ -1,0 +1,22 @@
+-- `halves::turn_chosen` meets its contract, by the walk over the keys that have all bits of low. Assumes nothing.
+use Prim.Native.Nat.{◌+◌, ◌-◌, ◌<◌}
+use native.Mathlib.Omega.{arith}
+use borrow.Author.Rules.{rules}
+use lib.ListN.{length}
+use Rattle.book.specs.Answers.{buffers}
+use Rattle.pairs.proofs.Bits.{or_ge}
+use Rattle.halves.proofs.Picks.{Picked, picks_start, picks_reach, picks_step, picks_end}
+use Rattle.halves.proofs.turn_chosen.Goals as goal
+
+pub loop-w-smaller : goal.loop-w-smaller
+loop-w-smaller c = let inv = c.loop-w.invariant in
+    omega (
+      arith,
+      c.loop-w-test.true,
+      inv.walked.same.reals,
+      picks_reach _ _ c.requires.0 inv,
+      or_ge (c.loop-w.w + 1) c.args.low,
+    )
+
+pub loop-w-preserved : goal.loop-w-preserved
+loop-w-preserved c = picks_step _ _ c.requires.0 _ _ _ _ c.loop-w.invariant c.loop-w-test.true c.put_upper-turned.ensures

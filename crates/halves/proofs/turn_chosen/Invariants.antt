@@ -1,0 +1,15 @@
+-- `halves::turn_chosen` meets its contract, by the walk over the keys that have all bits of low. Assumes nothing.
+use Prim.Native.Nat.{◌+◌, ◌-◌, ◌<◌}
+use native.Mathlib.Omega.{arith}
+use borrow.Author.Rules.{rules}
+use lib.ListN.{length}
+use Rattle.book.specs.Answers.{buffers}
+use Rattle.pairs.proofs.Bits.{or_ge}
+use Rattle.halves.proofs.Picks.{Picked, picks_start, picks_reach, picks_step, picks_end}
+use Rattle.halves.proofs.turn_chosen.Given as goal
+
+abbrev pub invariant-loop-w : goal.invariant-loop-w
+invariant-loop-w l = Picked l.low l.back l.upper l.angle (buffers l.initial.reals l.initial.imags) l.w (buffers l.reals l.imags)
+
+abbrev pub decreases-loop-w : goal.decreases-loop-w
+decreases-loop-w l = length l.initial.reals - (l.w - l.back)

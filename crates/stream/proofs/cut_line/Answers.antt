@@ -1,0 +1,9 @@
+-- `stream::cut_line`: the line is its bytes. Assumes nothing.
+use Prim.Native.Nat.{◌≤◌}
+use lib.ListN.{length}
+use Rattle.words.proofs.Writing.{line}
+use borrow.Author.Rules.{rules}
+use Rattle.stream.proofs.cut_line.Goals as goal
+
+pub returns : goal.returns
+returns c = let room : 4 ≤ length c.args.out.now = search rules in line room c.add.ensures
