@@ -157,7 +157,7 @@ fn bad_header<W: Write>(output: &mut W) -> Ended {
 // From a reader, which is a stored run's or standard input, to a writer.
 pub fn run_from<R: Read, W: Write>(engine: u32, input: &mut R, output: &mut W) -> Ended {
     let mut head = [0u8; 8];
-    let got = read_full(input, &mut head);
+    let got = read_full(input, &mut head).unwrap_or(0);
     let header = headers::read_header(&head[..got]);
     match header {
         Header::Good(n, number) => run_bench(engine, input, output, n, number),

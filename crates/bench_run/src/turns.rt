@@ -8,7 +8,6 @@ ghost use Rattle.program.specs.Program.{run_of};
 ghost use Rattle.bench_run.specs.Turns.{Writes, Closes};
 
 use program::{OUT, PIECE, Running};
-use reading::read_piece;
 use std::io::Read;
 
 // Behind a piece: what is known, how many bytes were read, and how many are to be written.
@@ -19,7 +18,7 @@ pub(crate) struct Turn {
     pub at: usize,
 }
 
-// A piece is read and taken. Its lines stand at the start of `out`, all of them.
+// A piece is read and taken; a read that fails is the end of the input. Its lines stand at the start of `out`, all of them.
 pub(crate) fn take_turn<R: Read>(
     engine: u32,
     input: &mut R,
@@ -34,7 +33,7 @@ pub(crate) fn take_turn<R: Read>(
     ensures counts { IsPrefixLen result.at out.new }
     ensures reads { Consumes (R.remaining input.old) (R.remaining input.new) (take result.got chunk.new) }
 {
-    let got = read_piece(input, chunk);
+    let got = input.read(chunk).unwrap_or(0);
     let piece = &chunk[..];
     let printed = program::put_piece(engine, from, &piece[..got], out, 0, reals, imags);
     let next = printed.next;

@@ -53,7 +53,7 @@ fn read_stored(rt: &impl Files, name: &str, space: &mut [u8]) -> usize
     ensures { IsPrefixLen result space.new }
 {
     match fs::open(rt, name) {
-        Ok(mut input) => read_full(&mut input, space),
+        Ok(mut input) => read_full(&mut input, space).unwrap_or(0),
         Err(_) => 0,
     }
 }

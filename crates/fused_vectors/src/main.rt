@@ -100,7 +100,7 @@ fn whole_list<R: Read>(rt: &impl Print, input: &mut R) -> io::Result<Tally> {
         unread: 0,
     };
     for _ in 0..u64::MAX {
-        let got = read_full(input, &mut line);
+        let got = read_full(input, &mut line)?;
         if got == 0 {
             return Ok(t);
         }

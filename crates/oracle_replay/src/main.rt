@@ -26,7 +26,7 @@ fn main(rt: HostRuntime) -> io::Result<()> {
     let mut cases: u64 = 0;
     let mut different: u64 = 0;
     while cases < u64::MAX {
-        let verdict = read_case(&mut input);
+        let verdict = read_case(&mut input)?;
         if DIFFERENT < verdict {
             return tell(&rt, cases, different, verdict % END);
         }

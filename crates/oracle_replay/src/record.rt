@@ -4,6 +4,7 @@ use act::FAST;
 use book::{Answer, Reply};
 use reading::read_full;
 use sessions::{Session, Started};
+use std::io;
 use std::io::Read;
 
 // The sampled records are the first of this session.
@@ -46,15 +47,15 @@ pub(crate) fn deliver<R: Read>(
     head: Head,
     reals: &mut [f64],
     imags: &mut [f64],
-) -> u64 {
+) -> io::Result<u64> {
     let length = head.length as usize;
     if SLOT < length {
-        return UNREAD;
+        return Ok(UNREAD);
     }
     let mut slot = [0u8; SLOT];
-    if read_full(input, &mut slot) < SLOT {
-        UNREAD
+    if read_full(input, &mut slot)? < SLOT {
+        Ok(UNREAD)
     } else {
-        (told_of(head.n, &slot[..length], reals, imags) != head.given) as u64
+        Ok((told_of(head.n, &slot[..length], reals, imags) != head.given) as u64)
     }
 }
