@@ -1,4 +1,4 @@
-/* The gate bench for C: the calls of libc_api.a, which `rt staticlib c_api` writes to target/staticlib/.
+/* The gate bench for C: the calls of libc_api.a, which `rt lib` in crates/c_api writes to crates/c_api/out/.
  *
  * Every call takes any numbers and any bytes, ends, and answers with one number:
  *   0         taken

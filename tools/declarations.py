@@ -24,7 +24,7 @@ def exported():
     """Name, parameters with their Rattle types, and result of each exported function."""
     for path in sorted(glob.glob(f'{ROOT}/crates/c_api/src/*.rt')):
         with open(path, encoding='utf-8') as f:
-            found = re.findall(r'#\[no_mangle\]\s+pub extern "C" fn (\w+)\(([^)]*)\) -> (\w+)', f.read())
+            found = re.findall(r'#\[unsafe\(no_mangle\)\]\s+pub extern "C" fn (\w+)\(([^)]*)\) -> (\w+)', f.read())
         for name, params, result in found:
             yield name, [tuple(p.split(': ')) for p in re.split(r',\s*', params.strip().rstrip(','))], result
 

@@ -1,4 +1,4 @@
-//! Links libc_api.a, which `rt staticlib c_api` writes, from GATE_BENCH_ARCHIVE_DIR or the repository's target/staticlib.
+//! Links libc_api.a, which `rt lib` in crates/c_api writes, from GATE_BENCH_ARCHIVE_DIR or the repository's crates/c_api/out.
 use std::env;
 use std::path::{Path, PathBuf};
 
@@ -7,11 +7,11 @@ fn main() {
     let package = PathBuf::from(env::var("CARGO_MANIFEST_DIR").expect("cargo sets CARGO_MANIFEST_DIR"));
     let dir = match env::var("GATE_BENCH_ARCHIVE_DIR") {
         Ok(dir) => package.join(dir),
-        Err(_) => package.join("../../target/staticlib"),
+        Err(_) => package.join("../../crates/c_api/out"),
     };
     let archive = dir.join("libc_api.a");
     if !Path::new(&archive).exists() {
-        panic!("no {}: run `rt staticlib c_api` at the repository's root, or set GATE_BENCH_ARCHIVE_DIR", archive.display());
+        panic!("no {}: run `rt lib` in the repository's crates/c_api, or set GATE_BENCH_ARCHIVE_DIR", archive.display());
     }
     println!("cargo:rerun-if-changed={}", archive.display());
     println!("cargo:rustc-link-search=native={}", dir.display());

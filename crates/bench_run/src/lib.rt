@@ -14,6 +14,10 @@ use first_state::MOST_PLACES;
 use gathering::STOPPED;
 use headers::Header;
 use program::{OUT, PIECE, Running};
+use reading::read_full;
+use std::io;
+use std::io::{Input, Read, Write};
+use std::process::ExitCode;
 use turns::{closing, take_turn};
 
 // How a run ended, for whoever started the program.
@@ -66,9 +70,10 @@ fn left(turns: u64, more: bool) -> u64
 
 // Reads to the end, and writes what has been answered before more is waited for. Nothing says that an input ends: the turns are counted down from a number that
 // no run uses up.
-fn take_input(
+fn take_input<R: Read, W: Write>(
     engine: u32,
-    input: i32,
+    input: &mut R,
+    output: &mut W,
     start: Running,
     reals: &mut [f64],
     imags: &mut [f64],
@@ -81,7 +86,7 @@ fn take_input(
     while 0 < turns {
         let turn = take_turn(engine, input, end, &mut chunk, &mut out, reals, imags);
         let at = turn.at;
-        open = io::write_all(libc::STDOUT_FILENO, &out[..at]);
+        open = output.write_all(&out[..at]).is_ok();
         end = turn.next;
         let feed = end.feed;
         turns = left(turns, goes_on(turn.got, feed.kept, open));
@@ -90,35 +95,42 @@ fn take_input(
 }
 
 // CUT, the A lines and END.
-fn write_closing(end: Running, reals: &[f64], imags: &[f64]) -> bool
+fn write_closing<W: Write>(output: &mut W, end: Running, reals: &[f64], imags: &[f64]) -> bool
     requires { length reals.now ≤ 2048 }
 {
     let mut out = [0u8; OUT];
     let n = closing(end, reals, imags, &mut out);
-    io::write_all(libc::STDOUT_FILENO, &out[..n])
+    output.write_all(&out[..n]).is_ok()
 }
 
 // The frames, and then the state behind them.
-fn run_session(
+fn run_session<R: Read, W: Write>(
     engine: u32,
-    input: i32,
+    input: &mut R,
+    output: &mut W,
     start: Running,
     reals: &mut [f64],
     imags: &mut [f64],
 ) -> Ended
     requires { Begins (run_of start) (here reals imags) }
 {
-    let behind = take_input(engine, input, start, reals, imags);
+    let behind = take_input(engine, input, output, start, reals, imags);
     let end = behind.end;
     if behind.open {
-        let written = write_closing(end, reals, imags);
+        let written = write_closing(output, end, reals, imags);
         return unless_lost(written, behind_frames(end.feed));
     }
     Ended::Unwritten
 }
 
 // From state real 1 at index 0, with the places that a state of n qubits has.
-fn run_bench(engine: u32, input: i32, n: u32, number: u32) -> Ended
+fn run_bench<R: Read, W: Write>(
+    engine: u32,
+    input: &mut R,
+    output: &mut W,
+    n: u32,
+    number: u32,
+) -> Ended
     requires { n ≤ 11 }
 {
     let size: usize = 1 << n;
@@ -127,6 +139,7 @@ fn run_bench(engine: u32, input: i32, n: u32, number: u32) -> Ended
     run_session(
         engine,
         input,
+        output,
         program::start(n, number),
         &mut reals[0..size],
         &mut imags[0..size],
@@ -134,34 +147,36 @@ fn run_bench(engine: u32, input: i32, n: u32, number: u32) -> Ended
 }
 
 // Only this line.
-fn bad_header() -> Ended {
+fn bad_header<W: Write>(output: &mut W) -> Ended {
     let mut line = [0u8; 128];
     let n = printing::put_bad_header(&mut line, 0);
-    let written = io::write_all(libc::STDOUT_FILENO, &line[..n]);
+    let written = output.write_all(&line[..n]).is_ok();
     unless_lost(written, Ended::BadHeader)
 }
 
-// From an open descriptor: that of a stored run, or standard input.
-pub fn run_from(engine: u32, input: i32) -> Ended {
+// From a reader, which is a stored run's or standard input, to a writer.
+pub fn run_from<R: Read, W: Write>(engine: u32, input: &mut R, output: &mut W) -> Ended {
     let mut head = [0u8; 8];
-    let got = io::read_full(input, &mut head);
+    let got = read_full(input, &mut head).unwrap_or(0);
     let header = headers::read_header(&head[..got]);
     match header {
-        Header::Good(n, number) => run_bench(engine, input, n, number),
-        Header::Bad => bad_header(),
+        Header::Good(n, number) => run_bench(engine, input, output, n, number),
+        Header::Bad => bad_header(output),
     }
 }
 
-fn tell(line: &[u8]) {
-    io::write_all(libc::STDERR_FILENO, line);
+// The line on standard error, which is let go where nobody takes it, and the status.
+fn tell(rt: &impl Eprint, line: &str, status: u8) -> ExitCode {
+    let _ = rt.eprintln(line);
+    ExitCode::from(status)
 }
 
-// The language has no exit status: ./bench makes one of the line on standard error. Standard output has 01's lines alone.
-pub fn run(engine: u32) {
-    match run_from(engine, libc::STDIN_FILENO) {
-        Ended::Whole => {}
-        Ended::Cut => tell(b"gate_bench: CUT\n"),
-        Ended::BadHeader => tell(b"gate_bench: BAD HEADER\n"),
-        Ended::Unwritten => tell(b"gate_bench: not everything could be written\n"),
+// From standard input to standard output, which has 01's lines alone: how the run ended is told by the status, and on standard error where that is not well.
+pub fn run(rt: &(impl Input + Print + Eprint), engine: u32) -> ExitCode {
+    match run_from(engine, &mut rt.reader(), &mut io::writer(rt)) {
+        Ended::Whole => ExitCode::SUCCESS,
+        Ended::Cut => tell(rt, "gate_bench: CUT", 4),
+        Ended::BadHeader => tell(rt, "gate_bench: BAD HEADER", 3),
+        Ended::Unwritten => tell(rt, "gate_bench: not everything could be written", 1),
     }
 }

@@ -2,11 +2,13 @@
 ghost use Rattle.std.specs.Prelude.{◌≤◌, length, take};
 ghost use Rattle.book.specs.Answers.{buffers};
 ghost use Rattle.book.specs.Lent.{before, after};
+ghost use Rattle.std.specs.Io.KnownBytes.{Consumes};
 ghost use Rattle.io.specs.Counts.{IsPrefixLen};
 ghost use Rattle.program.specs.Program.{run_of};
 ghost use Rattle.bench_run.specs.Turns.{Writes, Closes};
 
 use program::{OUT, PIECE, Running};
+use std::io::Read;
 
 // Behind a piece: what is known, how many bytes were read, and how many are to be written.
 #[derive(Clone, Copy)]
@@ -16,10 +18,10 @@ pub(crate) struct Turn {
     pub at: usize,
 }
 
-// A piece is read and taken. Its lines stand at the start of `out`, all of them.
-pub(crate) fn take_turn(
+// A piece is read and taken; a read that fails is the end of the input. Its lines stand at the start of `out`, all of them.
+pub(crate) fn take_turn<R: Read>(
     engine: u32,
-    input: i32,
+    input: &mut R,
     from: Running,
     chunk: &mut [u8; PIECE],
     out: &mut [u8; OUT],
@@ -29,10 +31,10 @@ pub(crate) fn take_turn(
     ensures writes { Writes (run_of from) (before reals imags) (take result.got chunk.new) (take result.at out.new)
         (run_of result.next) (after reals imags) }
     ensures counts { IsPrefixLen result.at out.new }
+    ensures reads { Consumes (R.remaining input.old) (R.remaining input.new) (take result.got chunk.new) }
 {
-    let read = libc::read(input, chunk);
+    let got = input.read(chunk).unwrap_or(0);
     let piece = &chunk[..];
-    let got = io::count(read, piece);
     let printed = program::put_piece(engine, from, &piece[..got], out, 0, reals, imags);
     let next = printed.next;
     Turn {

@@ -2,75 +2,75 @@
 // byte by byte; answers, count, every place of the state and what is kept at the end must be the whole's. docs/VECTORS-BENCH.md has the files.
 #![tactic(auto)]
 
+ghost use Rattle.io.specs.Counts.{IsPrefixLen};
+
 mod apart;
 mod compare;
 
 use apart::take_apart;
 use headers::Header;
-use libc::STDOUT_FILENO;
+use reading::read_full;
 use sessions::Session;
+use std::rt::Files;
+use std::{env, fs, io};
 
 // The longest of the files, and a byte more: a longer one is not taken apart.
 const MOST: usize = 11845;
 
-fn say(name: &[u8], words: &[u8]) {
-    io::write_all(STDOUT_FILENO, name);
-    io::write_all(STDOUT_FILENO, words);
+fn say(rt: &impl Print, name: &str, words: &str) -> io::Result<()> {
+    print!(rt; "{name}{words}")
 }
 
-fn say_count(count: u64, words: &[u8]) {
-    io::print_decimal(STDOUT_FILENO, count);
-    io::write_all(STDOUT_FILENO, words);
+fn say_count(rt: &impl Print, count: u64, words: &str) -> io::Result<()> {
+    print!(rt; "{count}{words}")
 }
 
 // How many cuts there were, and how many of them gave anything else than the whole.
-fn report(name: &[u8], session: Session, frames: &[u8]) {
+fn report(rt: &impl Print, name: &str, session: Session, frames: &[u8]) -> io::Result<()> {
     let tally = take_apart(session, frames);
-    say(name, b": ");
-    say_count(frames.len() as u64, b" bytes, ");
-    say_count(tally.cuts, b" cuts in two and one byte by byte, ");
-    say_count(tally.answers as u64, b" answers: ");
-    say_count(tally.differ, b" differ\n");
+    say(rt, name, ": ")?;
+    say_count(rt, frames.len() as u64, " bytes, ")?;
+    say_count(rt, tally.cuts, " cuts in two and one byte by byte, ")?;
+    say_count(rt, tally.answers as u64, " answers: ")?;
+    say_count(rt, tally.differ, " differ\n")
 }
 
-fn run_input(name: &[u8], input: &[u8]) {
+fn run_input(rt: &impl Print, name: &str, input: &[u8]) -> io::Result<()> {
     let header = headers::read_header(input);
     let Header::Good(n, number) = header else {
-        say(name, b": BAD HEADER\n");
-        return;
+        return say(rt, name, ": BAD HEADER\n");
     };
     report(
+        rt,
         name,
         Session::fresh(n, number),
         headers::behind_header(input),
-    );
-}
-
-fn run_argument(i: usize) {
-    let mut name = [0u8; 64];
-    let n = os::arg(i, &mut name);
-    run_stored(&name[..n]);
+    )
 }
 
 // Of a file that is not opened nothing is read, and so no header.
-fn run_stored(name: &[u8]) {
-    let mut space = [0u8; MOST];
-    let input = os::open_read(name);
-    let got = io::read_full(input, &mut space);
-    libc::close(input);
-    if got == MOST {
-        say(name, b": TOO LONG\n");
-        return;
+fn read_stored(rt: &impl Files, name: &str, space: &mut [u8]) -> usize
+    ensures { IsPrefixLen result space.new }
+{
+    match fs::open(rt, name) {
+        Ok(mut input) => read_full(&mut input, space).unwrap_or(0),
+        Err(_) => 0,
     }
-    run_input(name, &space[..got]);
+}
+
+fn run_stored(rt: &(impl Files + Print), name: &str) -> io::Result<()> {
+    let mut space = [0u8; MOST];
+    let got = read_stored(rt, name, &mut space);
+    if got == MOST {
+        return say(rt, name, ": TOO LONG\n");
+    }
+    run_input(rt, name, &space[..got])
 }
 
 // Argument 0 is the program's own name.
-fn main() {
-    let count = os::arg_count();
-    let mut i: usize = 1;
-    while i < count {
-        run_argument(i);
-        i += 1;
+fn main(rt: HostRuntime) -> io::Result<()> {
+    for name in env::args(&rt)?.skip(1) {
+        run_stored(&rt, name.as_str())?;
     }
+    Ok(())
 }

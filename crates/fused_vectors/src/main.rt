@@ -7,7 +7,9 @@
 
 mod text;
 
-use libc::{STDIN_FILENO, STDOUT_FILENO};
+use reading::read_full;
+use std::io;
+use std::io::Read;
 use text::read_words;
 use wire::{bits_of, float_of};
 
@@ -30,36 +32,41 @@ fn one_more(n: u64) -> u64 {
 }
 
 // The line that asks, which has what is wanted, and behind it what was got.
-fn show(line: &[u8; 70], got: f64) {
-    io::write_all(STDOUT_FILENO, line);
-    io::print_hex(STDOUT_FILENO, bits_of(got), 16);
-    io::write_all(STDOUT_FILENO, b" got\n");
+fn show(rt: &impl Print, line: &[u8; 70], got: f64) -> io::Result<()> {
+    rt.write_all(line)?;
+    println!(rt; "{:016x} got", bits_of(got))
 }
 
 // How many differ, with this one.
-fn compared(line: &[u8; 70], wanted: u64, got: f64, differ: u64) -> u64 {
+fn compared(
+    rt: &impl Print,
+    line: &[u8; 70],
+    wanted: u64,
+    got: f64,
+    differ: u64,
+) -> io::Result<u64> {
     if bits_of(got) == bits_of(float_of(wanted)) {
-        return differ;
+        return Ok(differ);
     }
     if differ < SHOWN {
-        show(line, got);
+        show(rt, line, got)?;
     }
-    one_more(differ)
+    Ok(one_more(differ))
 }
 
-fn fused_case(line: &[u8; 70], w: &[u64; 4], t: Tally) -> Tally {
+fn fused_case(rt: &impl Print, line: &[u8; 70], w: &[u64; 4], t: Tally) -> io::Result<Tally> {
     let mut after = t;
     let got = fused::fused(float_of(w[0]), float_of(w[1]), float_of(w[2]));
     after.fused = one_more(t.fused);
-    after.fused_differ = compared(line, w[3], got, t.fused_differ);
-    after
+    after.fused_differ = compared(rt, line, w[3], got, t.fused_differ)?;
+    Ok(after)
 }
 
-fn root_case(line: &[u8; 70], x: u64, wanted: u64, t: Tally) -> Tally {
+fn root_case(rt: &impl Print, line: &[u8; 70], x: u64, wanted: u64, t: Tally) -> io::Result<Tally> {
     let mut after = t;
     after.roots = one_more(t.roots);
-    after.roots_differ = compared(line, wanted, roots::root(float_of(x)), t.roots_differ);
-    after
+    after.roots_differ = compared(rt, line, wanted, roots::root(float_of(x)), t.roots_differ)?;
+    Ok(after)
 }
 
 fn unread(t: Tally) -> Tally {
@@ -68,22 +75,22 @@ fn unread(t: Tally) -> Tally {
     after
 }
 
-fn asked(line: &[u8; 70], t: Tally) -> Tally {
+fn asked(rt: &impl Print, line: &[u8; 70], t: Tally) -> io::Result<Tally> {
     let mut w = [0u64; 4];
     let kind = line[0];
     if read_words(line, &mut w) {
         match kind {
-            b'F' => fused_case(line, &w, t),
-            b'R' => root_case(line, w[2], w[3], root_case(line, w[0], w[1], t)),
-            _ => unread(t),
+            b'F' => fused_case(rt, line, &w, t),
+            b'R' => root_case(rt, line, w[2], w[3], root_case(rt, line, w[0], w[1], t)?),
+            _ => Ok(unread(t)),
         }
     } else {
-        unread(t)
+        Ok(unread(t))
     }
 }
 
 // Every whole line; a rest counts as one unread. Nothing says that an input ends: no list has so many lines.
-fn whole_list() -> Tally {
+fn whole_list<R: Read>(rt: &impl Print, input: &mut R) -> io::Result<Tally> {
     let mut line = [0u8; LINE];
     let mut t = Tally {
         fused: 0,
@@ -92,37 +99,34 @@ fn whole_list() -> Tally {
         roots_differ: 0,
         unread: 0,
     };
-    let mut turns = u64::MAX;
-    while 0 < turns {
-        let got = io::read_full(STDIN_FILENO, &mut line);
+    for _ in 0..u64::MAX {
+        let got = read_full(input, &mut line)?;
         if got == 0 {
-            return t;
+            return Ok(t);
         }
         if got < LINE {
-            return unread(t);
+            return Ok(unread(t));
         }
-        t = asked(&line, t);
-        turns -= 1;
+        t = asked(rt, &line, t)?;
     }
-    t
+    Ok(t)
 }
 
 // A count, behind its label.
-fn tell(label: &[u8], n: u64) {
-    io::write_all(STDOUT_FILENO, label);
-    io::print_decimal(STDOUT_FILENO, n);
+fn tell(rt: &impl Print, label: &str, n: u64) -> io::Result<()> {
+    print!(rt; "{label}{n}")
 }
 
-fn count(name: &[u8], cases: u64, differ: u64) {
-    tell(name, cases);
-    tell(b" cases ", differ);
-    io::write_all(STDOUT_FILENO, b" differences\n");
+fn count(rt: &impl Print, name: &str, cases: u64, differ: u64) -> io::Result<()> {
+    tell(rt, name, cases)?;
+    tell(rt, " cases ", differ)?;
+    println!(rt; " differences")
 }
 
-fn main() {
-    let t = whole_list();
-    count(b"F ", t.fused, t.fused_differ);
-    count(b"root ", t.roots, t.roots_differ);
-    tell(b"unread ", t.unread);
-    io::write_all(STDOUT_FILENO, b"\n");
+fn main(rt: HostRuntime) -> io::Result<()> {
+    let t = whole_list(&rt, &mut rt.stdin())?;
+    count(&rt, "F ", t.fused, t.fused_differ)?;
+    count(&rt, "root ", t.roots, t.roots_differ)?;
+    tell(&rt, "unread ", t.unread)?;
+    println!(rt; "")
 }

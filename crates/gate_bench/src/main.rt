@@ -2,7 +2,8 @@
 #![tactic(auto)]
 
 use act::FAST;
+use std::process::ExitCode;
 
-fn main() {
-    bench_run::run(FAST);
+fn main(rt: HostRuntime) -> ExitCode {
+    bench_run::run(&rt, FAST)
 }

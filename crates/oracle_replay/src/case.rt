@@ -1,7 +1,9 @@
 // One case: its head says what is called, on how many qubits, and so how many floats follow.
 use crate::floats::read_floats;
 use crate::run::run_case;
-use libc::STDIN_FILENO;
+use reading::read_full;
+use std::io;
+use std::io::Read;
 
 // The verdict on a case is 1 where anything differs, and its upper bit says that there was none: two verdicts are joined by `|`.
 pub(crate) const SAME: u64 = 0;
@@ -38,18 +40,19 @@ const MOST_SAMPLED: u8 = 6;
 const MOST_PLACES: usize = 64;
 
 // How many places the first operand has, and how many the second and what is wanted.
-fn with_places(head: Head, first: usize, places: usize) -> u64 {
+fn with_places<R: Read>(input: &mut R, head: Head, first: usize, places: usize) -> io::Result<u64> {
     if MOST_PLACES < first {
-        return UNREAD;
+        return Ok(UNREAD);
     }
     if MOST_PLACES < places {
-        return UNREAD;
+        return Ok(UNREAD);
     }
     let mut floats = [0.0; 384];
     let mut reals = [0.0; MOST_PLACES];
     let mut imags = [0.0; MOST_PLACES];
-    if read_floats(&mut floats, first, places) {
+    if read_floats(input, &mut floats, first, places)? {
         run_case(
+            input,
             head,
             first,
             &floats,
@@ -57,42 +60,45 @@ fn with_places(head: Head, first: usize, places: usize) -> u64 {
             &mut imags[..places],
         )
     } else {
-        UNREAD
+        Ok(UNREAD)
     }
 }
 
-fn sized_case(head: Head) -> u64 {
+fn sized_case<R: Read>(input: &mut R, head: Head) -> io::Result<u64> {
     let n = head.n;
     if MOST_SAMPLED < n {
-        return UNREAD;
+        return Ok(UNREAD);
     }
     let side: usize = 1 << n;
     let all: usize = 1 << (n + n);
     let kind = head.kind;
     match kind {
-        RECORD => with_places(head, 0, side),
-        GATE_MATRIX => with_places(head, 4, all),
-        TRANSPOSE => with_places(head, 0, all),
-        PRODUCT => with_places(head, all, all),
-        STATE_PRODUCT => with_places(head, all, side),
-        _ => UNREAD,
+        RECORD => with_places(input, head, 0, side),
+        GATE_MATRIX => with_places(input, head, 4, all),
+        TRANSPOSE => with_places(input, head, 0, all),
+        PRODUCT => with_places(input, head, all, all),
+        STATE_PRODUCT => with_places(input, head, all, side),
+        _ => Ok(UNREAD),
     }
 }
 
-pub(crate) fn read_case() -> u64 {
+pub(crate) fn read_case<R: Read>(input: &mut R) -> io::Result<u64> {
     let mut bytes = [0u8; 4];
-    let got = io::read_full(STDIN_FILENO, &mut bytes);
+    let got = read_full(input, &mut bytes)?;
     if got == 0 {
-        return END;
+        return Ok(END);
     }
     if got < 4 {
-        UNREAD
+        Ok(UNREAD)
     } else {
-        sized_case(Head {
-            kind: bytes[0],
-            n: bytes[1],
-            given: bytes[2],
-            length: bytes[3],
-        })
+        sized_case(
+            input,
+            Head {
+                kind: bytes[0],
+                n: bytes[1],
+                given: bytes[2],
+                length: bytes[3],
+            },
+        )
     }
 }

@@ -2,7 +2,9 @@
 // reals and then imags.
 ghost use Rattle.std.specs.Prelude.{◌+◌, ◌≤◌, length};
 
-use libc::STDIN_FILENO;
+use reading::read_full;
+use std::io;
+use std::io::Read;
 
 pub(crate) const FIRST_REALS: usize = 0;
 
@@ -34,31 +36,41 @@ fn word(bytes: &[u8; 8]) -> u64 {
 }
 
 // Whether the last was read: where the input ends before it, it is not.
-fn fill(floats: &mut [f64; 384], at: usize, count: usize) -> bool
+fn fill<R: Read>(
+    input: &mut R,
+    floats: &mut [f64; 384],
+    at: usize,
+    count: usize,
+) -> io::Result<bool>
     requires { at + count ≤ 384 }
 {
     let mut bytes = [0u8; 8];
     let mut got: usize = 8;
     let mut i: usize = 0;
     while i < count {
-        got = io::read_full(STDIN_FILENO, &mut bytes);
+        got = read_full(input, &mut bytes)?;
         floats[at + i] = wire::float_of(word(&bytes));
         i += 1;
     }
-    got == 8
+    Ok(got == 8)
 }
 
 // Whether all are read.
-pub(crate) fn read_floats(floats: &mut [f64; 384], first: usize, places: usize) -> bool
+pub(crate) fn read_floats<R: Read>(
+    input: &mut R,
+    floats: &mut [f64; 384],
+    first: usize,
+    places: usize,
+) -> io::Result<bool>
     requires first_bound { first ≤ 64 }
     requires places_bound { places ≤ 64 }
 {
-    fill(floats, FIRST_REALS, first);
-    fill(floats, FIRST_IMAGS, first);
-    fill(floats, REALS, places);
-    fill(floats, IMAGS, places);
-    fill(floats, WANTED_REALS, places);
-    fill(floats, WANTED_IMAGS, places)
+    fill(input, floats, FIRST_REALS, first)?;
+    fill(input, floats, FIRST_IMAGS, first)?;
+    fill(input, floats, REALS, places)?;
+    fill(input, floats, IMAGS, places)?;
+    fill(input, floats, WANTED_REALS, places)?;
+    fill(input, floats, WANTED_IMAGS, places)
 }
 
 pub(crate) fn part(floats: &[f64; 384], at: usize, count: usize) -> &[f64]

@@ -8,30 +8,30 @@ mod record;
 mod run;
 
 use case::{DIFFERENT, END, read_case};
-use libc::STDOUT_FILENO;
+use std::io;
 
-fn print(count: u64, what: &[u8]) {
-    io::print_decimal(STDOUT_FILENO, count);
-    io::write_all(STDOUT_FILENO, what);
+fn print(rt: &impl Print, count: u64, what: &str) -> io::Result<()> {
+    println!(rt; "{count} {what}")
 }
 
-fn tell(cases: u64, different: u64, unread: u64) {
-    print(cases, b" cases\n");
-    print(different, b" different\n");
-    print(unread, b" unread\n");
+fn tell(rt: &impl Print, cases: u64, different: u64, unread: u64) -> io::Result<()> {
+    print(rt, cases, "cases")?;
+    print(rt, different, "different")?;
+    print(rt, unread, "unread")
 }
 
 // Nothing says that an input ends: the loop ends at a number of cases that no sample has.
-fn main() {
+fn main(rt: HostRuntime) -> io::Result<()> {
+    let mut input = rt.stdin();
     let mut cases: u64 = 0;
     let mut different: u64 = 0;
     while cases < u64::MAX {
-        let verdict = read_case();
+        let verdict = read_case(&mut input)?;
         if DIFFERENT < verdict {
-            tell(cases, different, verdict % END);
-            return;
+            return tell(&rt, cases, different, verdict % END);
         }
         different += verdict;
         cases += 1;
     }
+    Ok(())
 }

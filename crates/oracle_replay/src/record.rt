@@ -2,8 +2,10 @@
 use crate::case::{Head, UNREAD};
 use act::FAST;
 use book::{Answer, Reply};
-use libc::STDIN_FILENO;
+use reading::read_full;
 use sessions::{Session, Started};
+use std::io;
+use std::io::Read;
 
 // The sampled records are the first of this session.
 const NUMBER: u32 = 7;
@@ -40,15 +42,20 @@ fn told_of(n: u8, bytes: &[u8], reals: &mut [f64], imags: &mut [f64]) -> u8 {
 }
 
 // The record is the slot's first bytes.
-pub(crate) fn deliver(head: Head, reals: &mut [f64], imags: &mut [f64]) -> u64 {
+pub(crate) fn deliver<R: Read>(
+    input: &mut R,
+    head: Head,
+    reals: &mut [f64],
+    imags: &mut [f64],
+) -> io::Result<u64> {
     let length = head.length as usize;
     if SLOT < length {
-        return UNREAD;
+        return Ok(UNREAD);
     }
     let mut slot = [0u8; SLOT];
-    if io::read_full(STDIN_FILENO, &mut slot) < SLOT {
-        UNREAD
+    if read_full(input, &mut slot)? < SLOT {
+        Ok(UNREAD)
     } else {
-        (told_of(head.n, &slot[..length], reals, imags) != head.given) as u64
+        Ok((told_of(head.n, &slot[..length], reals, imags) != head.given) as u64)
     }
 }

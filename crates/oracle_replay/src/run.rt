@@ -7,6 +7,8 @@ use crate::floats::{
 };
 use crate::record::deliver;
 use book::{Amplitude, Answer, Matrix};
+use std::io;
+use std::io::Read;
 
 fn verdict_of(answer: Answer) -> u64 {
     match answer {
@@ -60,41 +62,48 @@ fn product(
 }
 
 // Whether the call answers as it should.
-fn call(head: Head, first: usize, floats: &[f64; 384], reals: &mut [f64], imags: &mut [f64]) -> u64
+fn call<R: Read>(
+    input: &mut R,
+    head: Head,
+    first: usize,
+    floats: &[f64; 384],
+    reals: &mut [f64],
+    imags: &mut [f64],
+) -> io::Result<u64>
     requires first_bound { first ≤ 64 }
     requires reals_len_bound { length reals.old ≤ 64 }
 {
     let n = head.n as u32;
     let kind = head.kind;
     match kind {
-        RECORD => deliver(head, reals, imags),
-        GATE_MATRIX => verdict_of(unitaries::from_single_qubit_gate(
+        RECORD => deliver(input, head, reals, imags),
+        GATE_MATRIX => Ok(verdict_of(unitaries::from_single_qubit_gate(
             reals,
             imags,
             n,
             head.given as u32,
             matrix_of(floats),
-        )),
-        TRANSPOSE => verdict_of(unitaries::conj_t(reals, imags, n)),
-        _ => verdict_of(product(head, first, floats, reals, imags)),
+        ))),
+        TRANSPOSE => Ok(verdict_of(unitaries::conj_t(reals, imags, n))),
+        _ => Ok(verdict_of(product(head, first, floats, reals, imags))),
     }
 }
 
 // The second operand is put where the call changes it; a product writes over it.
-pub(crate) fn run_case(
+pub(crate) fn run_case<R: Read>(
+    input: &mut R,
     head: Head,
     first: usize,
     floats: &[f64; 384],
     reals: &mut [f64],
     imags: &mut [f64],
-) -> u64
+) -> io::Result<u64>
     requires first_bound { first ≤ 64 }
     requires reals_len_bound { length reals.old ≤ 64 }
     requires imags_len_bound { length imags.old ≤ 64 }
 {
     copy(reals, floats, REALS);
     copy(imags, floats, IMAGS);
-    call(head, first, floats, reals, imags)
-        | differs(reals, floats, WANTED_REALS)
-        | differs(imags, floats, WANTED_IMAGS)
+    let called = call(input, head, first, floats, reals, imags)?;
+    Ok(called | differs(reals, floats, WANTED_REALS) | differs(imags, floats, WANTED_IMAGS))
 }

@@ -1,5 +1,7 @@
 // Lines of hex digits.
-use libc::STDIN_FILENO;
+use reading::read_full;
+use std::io;
+use std::io::Read;
 
 // No line has more bytes.
 pub(crate) const MOST: usize = 128;
@@ -22,27 +24,27 @@ fn value(byte: u8) -> u8 {
 }
 
 // The next digit's value, LINE_FEED, or NO_BYTE at the end of the input.
-fn next_digit() -> u8 {
+fn next_digit<R: Read>(input: &mut R) -> io::Result<u8> {
     let mut bytes = [0u8; 1];
-    if io::read_full(STDIN_FILENO, &mut bytes) == 0 {
-        return NO_BYTE;
+    if read_full(input, &mut bytes)? == 0 {
+        return Ok(NO_BYTE);
     }
-    value(bytes[0])
+    Ok(value(bytes[0]))
 }
 
 // How many bytes the next line has.
-pub(crate) fn read_line(line: &mut [u8]) -> usize {
+pub(crate) fn read_line<R: Read>(input: &mut R, line: &mut [u8]) -> io::Result<usize> {
     let mut len: usize = 0;
     while len < line.len() {
-        let high = next_digit();
+        let high = next_digit(input)?;
         if high == NO_BYTE {
-            return NO_LINE;
+            return Ok(NO_LINE);
         }
         if high == LINE_FEED {
-            return len;
+            return Ok(len);
         }
-        line[len] = high % 16 * 16 + next_digit() % 16;
+        line[len] = high % 16 * 16 + next_digit(input)? % 16;
         len += 1;
     }
-    len
+    Ok(len)
 }

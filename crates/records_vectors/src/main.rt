@@ -7,18 +7,19 @@ mod tell;
 mod text;
 
 use lines::{MOST, read_line};
+use std::io;
 use tell::tell;
 
-// Nothing says that an input ends: the turns are counted down from a number that no run uses up.
-fn main() {
+// Nothing says that an input ends: the turns are counted up to a number that no run uses up.
+fn main(rt: HostRuntime) -> io::Result<()> {
+    let mut input = rt.stdin();
     let mut line = [0u8; MOST];
-    let mut turns = u64::MAX;
-    while 0 < turns {
-        let len = read_line(&mut line);
+    for _ in 0..u64::MAX {
+        let len = read_line(&mut input, &mut line)?;
         if MOST < len {
-            return;
+            return Ok(());
         }
-        tell(&line[..len]);
-        turns -= 1;
+        tell(&rt, &line[..len])?;
     }
+    Ok(())
 }

@@ -3,6 +3,7 @@
 use crate::text::{floats, hex, number, text};
 use answers::TAKEN;
 use spelling::{read_numbers, write_numbers};
+use std::io;
 
 // The writer's buffer: a byte more than the largest record, and one to spare.
 const ROOM: usize = 96;
@@ -28,70 +29,77 @@ fn float_count(code: u32) -> usize {
 }
 
 // Session, number, code, target; the mask, second qubit or outcome, which a bit flip has not; a measurement's reset.
-fn tell_fields(fields: &[u32; 6]) {
-    number(fields[0]);
-    number(fields[1]);
-    number(fields[2]);
-    number(fields[3]);
+fn tell_fields(rt: &impl Print, fields: &[u32; 6]) -> io::Result<()> {
+    number(rt, fields[0])?;
+    number(rt, fields[1])?;
+    number(rt, fields[2])?;
+    number(rt, fields[3])?;
     if fields[2] != 12 {
-        number(fields[4]);
+        number(rt, fields[4])?;
     }
     if fields[2] == 11 {
-        number(fields[5]);
+        number(rt, fields[5])?;
     }
+    Ok(())
 }
 
-fn refused(said: u32) {
-    text(b"REFUSED");
-    number(said);
+fn refused(rt: &impl Print, said: u32) -> io::Result<()> {
+    text(rt, "REFUSED")?;
+    number(rt, said)
 }
 
-fn answer(said: u32) {
-    text(b" ");
+fn answer(rt: &impl Print, said: u32) -> io::Result<()> {
+    text(rt, " ")?;
     if said < LEAST {
-        refused(said);
-        return;
+        return refused(rt, said);
     }
-    text(b"WRITES");
-    number(said);
+    text(rt, "WRITES")?;
+    number(rt, said)
 }
 
 // What the writer answers, and what it leaves in the buffer.
-fn tell_buffer(fields: &[u32], values: &[f64], buffer: &mut [u8]) {
-    answer(write_numbers(fields, values, buffer));
-    text(b" ");
-    hex(buffer);
+fn tell_buffer(
+    rt: &impl Print,
+    fields: &[u32],
+    values: &[f64],
+    buffer: &mut [u8],
+) -> io::Result<()> {
+    answer(rt, write_numbers(fields, values, buffer))?;
+    text(rt, " ")?;
+    hex(rt, buffer)
 }
 
 // The same for a buffer of so many bytes.
-fn tell_written(fields: &[u32], values: &[f64], room: usize) {
+fn tell_written(rt: &impl Print, fields: &[u32], values: &[f64], room: usize) -> io::Result<()> {
     let mut buffer = [UNTOUCHED; ROOM];
     if room <= ROOM {
-        tell_buffer(fields, values, &mut buffer[0..room]);
+        tell_buffer(rt, fields, values, &mut buffer[0..room])?;
     }
+    Ok(())
 }
 
 // What is written back with a byte more than the record's, and with a byte less.
-fn tell_both(fields: &[u32], values: &[f64], len: usize) {
+fn tell_both(rt: &impl Print, fields: &[u32], values: &[f64], len: usize) -> io::Result<()> {
     if 0 < len {
         if len < ROOM {
-            tell_written(fields, values, len + 1);
-            tell_written(fields, values, len - 1);
+            tell_written(rt, fields, values, len + 1)?;
+            tell_written(rt, fields, values, len - 1)?;
         }
     }
+    Ok(())
 }
 
-pub fn tell(bytes: &[u8]) {
+pub fn tell(rt: &impl Print, bytes: &[u8]) -> io::Result<()> {
     let mut fields = [0u32; 6];
     let mut values = [0.0; 8];
     let said = read_numbers(bytes, &mut fields, &mut values);
     if said == TAKEN {
-        text(b"READ");
-        tell_fields(&fields);
-        floats(&values, float_count(fields[2]));
-        tell_both(&fields, &values, bytes.len());
+        text(rt, "READ")?;
+        tell_fields(rt, &fields)?;
+        floats(rt, &values, float_count(fields[2]))?;
+        tell_both(rt, &fields, &values, bytes.len())?;
     } else {
-        refused(said);
+        refused(rt, said)?;
     }
-    text(b"\n");
+    text(rt, "\n")
 }

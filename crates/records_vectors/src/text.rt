@@ -1,43 +1,36 @@
 // Text to standard output, piece by piece: the lines are few, and a buffer would go through every function that tells.
-use libc::STDOUT_FILENO;
+use std::io;
 
-pub fn text(bytes: &[u8]) {
-    io::write_all(STDOUT_FILENO, bytes);
+pub fn text(rt: &impl Print, text: &str) -> io::Result<()> {
+    print!(rt; "{text}")
 }
 
 // A blank and a number.
-pub fn number(n: u32) {
-    text(b" ");
-    io::print_decimal(STDOUT_FILENO, n as u64);
+pub fn number(rt: &impl Print, n: u32) -> io::Result<()> {
+    print!(rt; " {n}")
 }
 
 // A blank and the bits of an f64.
-fn bits(x: f64) {
-    text(b" ");
-    io::print_hex(STDOUT_FILENO, wire::bits_of(x), 16);
+fn bits(rt: &impl Print, x: f64) -> io::Result<()> {
+    print!(rt; " {:016x}", wire::bits_of(x))
 }
 
 // So many, as far as there are.
-pub fn floats(numbers: &[f64], count: usize) {
-    let mut i: usize = 0;
-    while i < count {
-        if numbers.len() <= i {
-            return;
-        }
-        bits(numbers[i]);
-        i += 1;
+pub fn floats(rt: &impl Print, numbers: &[f64], count: usize) -> io::Result<()> {
+    for x in numbers.iter().take(count) {
+        bits(rt, *x)?;
     }
+    Ok(())
 }
 
-fn byte_digits(byte: u8) {
-    io::print_hex(STDOUT_FILENO, byte as u64, 2);
+fn byte_digits(rt: &impl Print, byte: u8) -> io::Result<()> {
+    print!(rt; "{byte:02x}")
 }
 
 // Bytes as hex digits, two for each.
-pub fn hex(bytes: &[u8]) {
-    let mut i: usize = 0;
-    while i < bytes.len() {
-        byte_digits(bytes[i]);
-        i += 1;
+pub fn hex(rt: &impl Print, bytes: &[u8]) -> io::Result<()> {
+    for byte in bytes {
+        byte_digits(rt, *byte)?;
     }
+    Ok(())
 }

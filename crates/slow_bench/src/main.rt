@@ -2,7 +2,8 @@
 #![tactic(auto)]
 
 use act::SLOW;
+use std::process::ExitCode;
 
-fn main() {
-    bench_run::run(SLOW);
+fn main(rt: HostRuntime) -> ExitCode {
+    bench_run::run(&rt, SLOW)
 }

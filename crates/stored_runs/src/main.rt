@@ -3,33 +3,29 @@
 #![tactic(auto)]
 
 use act::{FAST, SLOW};
-use libc::STDOUT_FILENO;
+use std::rt::Files;
+use std::{env, fs, io};
 
-fn run_stored(engine: u32, name: &[u8], heading: &[u8]) {
-    io::write_all(STDOUT_FILENO, name);
-    io::write_all(STDOUT_FILENO, heading);
-    let input = os::open_read(name);
-    if input < 0 {
-        io::write_all(STDOUT_FILENO, b"NOT OPENED\n");
-        return;
+fn run_stored(rt: &(impl Files + Print), engine: u32, name: &str, heading: &str) -> io::Result<()> {
+    println!(rt; "{name}{heading}")?;
+    match fs::open(rt, name) {
+        Ok(mut input) => {
+            bench_run::run_from(engine, &mut input, &mut io::writer(rt));
+            Ok(())
+        }
+        Err(_) => println!(rt; "NOT OPENED"),
     }
-    bench_run::run_from(engine, input);
-    libc::close(input);
 }
 
-fn run_argument(i: usize) {
-    let mut name = [0u8; 64];
-    let n = os::arg(i, &mut name);
-    run_stored(FAST, &name[..n], b":\n");
-    run_stored(SLOW, &name[..n], b" by the slow engine:\n");
+fn run_argument(rt: &(impl Files + Print), name: &str) -> io::Result<()> {
+    run_stored(rt, FAST, name, ":")?;
+    run_stored(rt, SLOW, name, " by the slow engine:")
 }
 
 // Argument 0 is the program's own name.
-fn main() {
-    let count = os::arg_count();
-    let mut i: usize = 1;
-    while i < count {
-        run_argument(i);
-        i += 1;
+fn main(rt: HostRuntime) -> io::Result<()> {
+    for name in env::args(&rt)?.skip(1) {
+        run_argument(&rt, name.as_str())?;
     }
+    Ok(())
 }
