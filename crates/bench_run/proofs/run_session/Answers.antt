@@ -1,0 +1,18 @@
+-- A state of at most 11 qubits has at most 2,048 places, before the frames and behind them.
+use Rattle.std.proofs.Common.{ℕ, ◌-◌, ◌^◌, ◌≤◌, ◌∷◌, length, replicate, ap, arith}
+use lib.ListN.{length-map, length-replicate}
+use Rattle.book.specs.Answers.{Buffers}
+use Rattle.book.specs.Examples.{whole}
+use Rattle.first_state.proofs.First.{places}
+use Rattle.program.specs.Program.{Run}
+use Rattle.bench_run.specs.Turns.{Begins}
+use Rattle.bench_run.proofs.run_session.Goals as goal
+
+short : {x : Run} {b : Buffers} → Begins x b → length b.reals ≤ 2048
+short s =
+    let n = s.n in
+    let many = length-map (1 ∷ replicate (2 ^ n - 1) 0) whole in
+    omega (arith, ap (λ (b : Buffers). length b.reals) s.state, many, length-replicate {A = ℕ} (2 ^ n - 1) 0, (places n s.few).0, (places n s.few).1)
+
+pub write_closing-written-requires : goal.write_closing-written-requires
+write_closing-written-requires g c = omega (arith, short c.requires, c.take_input-behind.auto.reals)
