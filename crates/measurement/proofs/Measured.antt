@@ -4,7 +4,7 @@ use mathlib.Core.Bool.{false, cond, ◌&&◌}
 use mathlib.Core.List.{List, [], ◌∷◌, ◌++◌}
 use mathlib.Core.Path.{◌≡◌, refl, ap, ◌∙◌}
 use borrow.Author.Tests.{eq-eqb, lt-leb}
-use lib.Dec.{eqb, leb}
+use lib.Dec.{eqb}
 use lib.Ieee.{Float}
 use lib.ListN.{length}
 use Rattle.book.proofs.Lengths.{held_fits}
@@ -12,11 +12,11 @@ use Rattle.book.proofs.Refusals.{right_lengths, right_size}
 use Rattle.book.specs.Answers.{Test, ◌⇒◌, first, Buffers, unless, Does}
 use Rattle.book.specs.Calls.{call_of, act}
 use Rattle.book.specs.Gates.{x_rule}
-use Rattle.book.specs.Kernels.{bad_size, most_qubits, bad_length, size_tests, seat_tests}
+use Rattle.book.specs.Kernels.{most_qubits, bad_length, size_tests, seat_tests}
 use Rattle.book.specs.Measuring.{probability, collapsed, one_over_root, measured, bad_forced, bad_chance, measure_call}
 use Rattle.book.specs.State.{State, at, held, uncontrolled, on_pairs}
 use Rattle.book.specs.declared.Answer.{Answer}
-use Rattle.book.specs.declared.Answer.TheVariants.{Taken, Value, Refused}
+use Rattle.book.specs.declared.Answer.TheVariants.{Taken, Value}
 use Rattle.book.specs.declared.Forced.{Forced}
 use Rattle.book.specs.declared.Gate.TheVariants.{X, Measure}
 use Rattle.seated.proofs.Judged.{passed, judged_behind, judged_stays, keeps, works}

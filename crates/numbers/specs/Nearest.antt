@@ -3,7 +3,8 @@
 -- Where an operand of F is a NaN or an infinity nothing is rounded, and F's clauses in `Fused` are the rules themselves: a NaN makes a NaN, 0 times an infinity
 -- and infinities of opposite signs make a NaN, and any other infinity stays. So it is with the root of a NaN, of an infinity, of a zero and of a number below
 -- zero.
-use Rattle.std.specs.Prelude.{◌≡◌, ℕ, zero, suc, ◌-◌, ◌*◌, ◌%◌, ◌^◌, ◌≤◌, ◌<◌, Bool, true, false, ◌&&◌, cond, ℤ, pos, negsuc, neg_ℤ, nat_abs, ◌+ℤ◌, ◌-ℤ◌, ◌*ℤ◌, T, Float}
+use Rattle.std.specs.Prelude.{◌≡◌, ℕ, zero, suc, ◌-◌, ◌*◌, ◌%◌, ◌^◌, ◌≤◌, ◌<◌, Bool, true}
+use Rattle.std.specs.Prelude.{false, ◌&&◌, cond, ℤ, pos, negsuc, neg_ℤ, nat_abs, ◌+ℤ◌, ◌-ℤ◌, ◌*ℤ◌, T, Float}
 use Rattle.std.specs.Float.{nan, inf, fin, Format}
 use Rattle.std.specs.Float.Ieee.{prec, emax, unlike, lt, ne, fits, to_bits}
 use Rattle.std.specs.Float.Ieee.Positive.{num, den, positive}

@@ -41,7 +41,8 @@ next_least i =
     ⊎_elim
     (λ z.
     let h : (n + 1) / 2 ≡ n / 2 = omega arith in
-    let s' : bit_or (n + 1) f ≡ bit_or (n / 2) (f / 2) * 2 + max ((n + 1) % 2) (f % 2) = s ∙ ap (λ (x : ℕ). bit_or x (f / 2) * 2 + max ((n + 1) % 2) (f % 2)) h in
+    let s' : bit_or (n + 1) f ≡ bit_or (n / 2) (f / 2) * 2 + max ((n + 1) % 2) (f % 2) =
+    s ∙ ap (λ (x : ℕ). bit_or x (f / 2) * 2 + max ((n + 1) % 2) (f % 2)) h in
     omega (arith, or_add_and (n / 2) (f / 2)))
     (λ o.
     let h : (n + 1) / 2 ≡ n / 2 + 1 = omega arith in

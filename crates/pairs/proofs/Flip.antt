@@ -1,7 +1,7 @@
 -- Bit flip after its judge, in the code's terms: X swept, or nothing. Assumes nothing.
 use Prim.Native.Nat.{ℕ, ◌^◌}
 use mathlib.Core.Bool.{Bool, true, false, cond}
-use mathlib.Core.List.{[], ◌∷◌, ◌++◌}
+use mathlib.Core.List.{◌++◌}
 use mathlib.Core.Path.{◌≡◌, refl, sym, ap, ◌∙◌, subst}
 use native.Mathlib.Nat.{zero-add}
 use native.Mathlib.Omega.{arith}
@@ -33,9 +33,11 @@ seats_numbered : (n t : ℕ) (b : Buffers) → T (numbered (size_tests n b ++ fr
 unfolding size_tests
 seats_numbered n t b = tt
 
-pub flip_judged : {n t : ℕ} {noise : Noise} {b : Buffers} {s o r : Answer} → Judges (size_tests n b ++ free_tests n t) s → Judges (finite_tests (noise_of noise)) o
+pub flip_judged : {n t : ℕ} {noise : Noise} {b : Buffers} {s o r : Answer} → Judges (size_tests n b ++ free_tests n t) s
+    → Judges (finite_tests (noise_of noise)) o
     → r ≡ first_of s o → Judged n t noise b r
-flip_judged {n} {t} {noise} {b} j k e = record { is = own_judged (size_tests n b) (free_tests n t) (finite_tests (noise_of noise)) (seats_numbered n t b) j k e }
+flip_judged {n} {t} {noise} {b} j k e =
+    record { is = own_judged (size_tests n b) (free_tests n t) (finite_tests (noise_of noise)) (seats_numbered n t b) j k e }
 
 module _ {n t : ℕ} {noise : Noise} {b : Buffers} {r : Answer} (j : Judged n t noise b r) where
   pub flip_kept : (r ≡ Taken → ⊥) → Does (flip_of n t noise b) r b

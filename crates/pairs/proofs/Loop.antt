@@ -26,7 +26,8 @@ module _ (rule : Pair → Pair) (Key : ℕ → Type 0) (s0 s1 : ℕ → ℕ) whe
 
   -- THE LAW: from a to b, then on from b to c, is from a to c
   module _ (apart : Apart Key s0 s1) where
-    pub join : {a b c : ℕ} {s s' s'' : State} → a ≤ b → b ≤ c → Paired rule Key s0 s1 a b s s' → Paired rule Key s0 s1 b c s' s'' → Paired rule Key s0 s1 a c s s''
+    pub join : {a b c : ℕ} {s s' s'' : State} → a ≤ b → b ≤ c → Paired rule Key s0 s1 a b s s' → Paired rule Key s0 s1 b c s' s''
+        → Paired rule Key s0 s1 a c s s''
     join {a} {b} {c} {s} {s'} {s''} ab bc p q =
         record {
           lower = λ w k x y. elim (dec_lt w b) [

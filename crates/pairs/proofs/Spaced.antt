@@ -57,7 +57,8 @@ module _ {A : Type 0} (l : List A) (s0 s1 k : ℕ) (x y z w d : A) (order : s0 <
   n3 = simp length-set
 
   pub four_other : (i : ℕ) → (i ≡ s0 → ⊥) → (i ≡ s1 → ⊥) → (i ≡ s0 + k → ⊥) → (i ≡ s1 + k → ⊥) → get_or l4 i d ≡ get_or l i d
-  four_other i a b e f = get_or-set_other l3 (s1 + k) i w d f ∙ get_or-set_other l2 s1 i z d b ∙ get_or-set_other l1 (s0 + k) i y d e ∙ get_or-set_other l s0 i x d a
+  four_other i a b e f =
+      get_or-set_other l3 (s1 + k) i w d f ∙ get_or-set_other l2 s1 i z d b ∙ get_or-set_other l1 (s0 + k) i y d e ∙ get_or-set_other l s0 i x d a
 
   pub four_low : get_or l4 s0 d ≡ x
   four_low =

@@ -1,6 +1,7 @@
 -- The laws of a loop that prints a piece, and of one that prints piece after piece: the lines of answers in two parts are those of the first, and then those of
 -- the second with the numbers that follow; a u64 counts them, so the numbers are added modulo 2 ^ 64. Assumes nothing.
-use Rattle.std.proofs.Common.{◌≡◌, ℕ, suc, ◌+◌, ◌-◌, ◌%◌, ◌^◌, ◌<◌, ◌≤◌, min, List, [], ◌∷◌, ◌++◌, length, take, drop, sym, refl, ap, ◌∙◌, append_assoc, append-nil, mod-eq_of_lt, arith, length-append, length-drop}
+use Rattle.std.proofs.Common.{◌≡◌, ℕ, suc, ◌+◌, ◌-◌, ◌%◌, ◌^◌, ◌<◌, ◌≤◌, min, List, [], ◌∷◌}
+use Rattle.std.proofs.Common.{◌++◌, length, take, drop, sym, refl, ap, ◌∙◌, append_assoc, append-nil, mod-eq_of_lt, arith, length-append, length-drop}
 use native.Mathlib.Nat.{mod-add-mod}
 use Rattle.book.specs.Answers.{Buffers, replies}
 use Rattle.book.specs.Lent.{SameSize}

@@ -24,7 +24,8 @@ pub round_squeeze : (f : Format) (s : Bool) (w n e x : ℕ) → (n ≡ 0) ⊎ (n
     → round f s (cut_to_odd w n * 2 ^ (e + n)) (2 ^ (x + low f)) ≡ round f s (w * 2 ^ e) (2 ^ (x + low f))
 round_squeeze f s w n e x (inl z) =
     ap (λ (y : ℕ). round f s y (2 ^ (x + low f)))
-    (ap (λ (y : ℕ). cut_to_odd w y * 2 ^ (e + y)) z ∙ ap₂ (λ (y z : ℕ). y * 2 ^ z) (ap (λ (y : ℕ). cut_to_odd y 0) (sym (mul-one w)) ∙ cut_exact w 0) (add-zero e))
+    (ap (λ (y : ℕ). cut_to_odd w y * 2 ^ (e + y)) z
+    ∙ ap₂ (λ (y z : ℕ). y * 2 ^ z) (ap (λ (y : ℕ). cut_to_odd y 0) (sym (mul-one w)) ∙ cut_exact w 0) (add-zero e))
 round_squeeze f s w n e x (inr l) = go (eq-zero-or-pos w)
   where
     up : (n e y : ℕ) → n + e + 2 ≤ y → suc n + e + 1 ≤ y

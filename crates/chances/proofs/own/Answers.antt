@@ -1,5 +1,4 @@
 -- `chances::own` meets its contract: each return cites the refusal that its test gives, and that the one before it was passed. Assumes nothing.
-use borrow.Author.Rules.{rules}
 use Rattle.chances.proofs.Tests as O
 use Rattle.chances.proofs.own.Goals as goal
 

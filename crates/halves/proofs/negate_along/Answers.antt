@@ -1,10 +1,6 @@
 -- `halves::negate_along` meets its contract, by the walk along a part. Assumes nothing.
 use Prim.Native.Nat.{◌-◌}
-use borrow.Author.Rules.{rules}
-use lib.ListN.{length}
-use Rattle.book.specs.Answers.{buffers}
-use Rattle.rules.specs.Rules.{z_upper}
-use Rattle.pairs.proofs.Halves.{Walked, walk_starts, walk_steps, walk_ends}
+use Rattle.pairs.proofs.Halves.{walk_steps}
 use Rattle.halves.proofs.negate_along.Goals as goal
 
 pub loop-j-preserved : goal.loop-j-preserved

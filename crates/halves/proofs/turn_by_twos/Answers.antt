@@ -1,13 +1,11 @@
 -- `halves::turn_by_twos` meets its contract, by the walk over the keys that have all bits of low, two at a turn. Assumes nothing.
-use Prim.Native.Nat.{◌+◌, ◌-◌, ◌%◌, ◌<◌}
-use mathlib.Core.Path.{◌≡◌, ap}
+use Prim.Native.Nat.{◌+◌, ◌-◌, ◌<◌}
+use mathlib.Core.Path.{ap}
 use native.Mathlib.Omega.{arith}
-use borrow.Author.Rules.{rules}
-use lib.ListN.{length, length-set}
-use Rattle.book.specs.Answers.{buffers}
+use lib.ListN.{length}
 use Rattle.book.specs.declared.Pair.{Pair}
 use Rattle.pairs.proofs.Bits.{or_ge}
-use Rattle.halves.proofs.Picks.{Picked, picks_start, picks_reach, picks_two_steps, picks_end, next_even}
+use Rattle.halves.proofs.Picks.{picks_reach, picks_two_steps, next_even}
 use Rattle.halves.proofs.turn_by_twos.Goals as goal
 
 pub loop-v-smaller : goal.loop-v-smaller

@@ -1,13 +1,9 @@
 -- `halves::turn_by_twos` meets its contract, by the walk over the keys that have all bits of low, two at a turn. Assumes nothing.
-use Prim.Native.Nat.{◌+◌, ◌-◌, ◌%◌, ◌<◌}
-use mathlib.Core.Path.{◌≡◌, ap}
-use native.Mathlib.Omega.{arith}
-use borrow.Author.Rules.{rules}
-use lib.ListN.{length, length-set}
+use Prim.Native.Nat.{◌-◌, ◌%◌}
+use mathlib.Core.Path.{◌≡◌}
+use lib.ListN.{length}
 use Rattle.book.specs.Answers.{buffers}
-use Rattle.book.specs.declared.Pair.{Pair}
-use Rattle.pairs.proofs.Bits.{or_ge}
-use Rattle.halves.proofs.Picks.{Picked, picks_start, picks_reach, picks_two_steps, picks_end, next_even}
+use Rattle.halves.proofs.Picks.{Picked}
 use Rattle.halves.proofs.turn_by_twos.Given as goal
 
 abbrev pub invariant-loop-v : goal.invariant-loop-v

@@ -1,11 +1,8 @@
 -- `halves::turn_chosen` meets its contract, by the walk over the keys that have all bits of low. Assumes nothing.
-use Prim.Native.Nat.{◌+◌, ◌-◌, ◌<◌}
+use Prim.Native.Nat.{◌+◌, ◌-◌}
 use native.Mathlib.Omega.{arith}
-use borrow.Author.Rules.{rules}
-use lib.ListN.{length}
-use Rattle.book.specs.Answers.{buffers}
 use Rattle.pairs.proofs.Bits.{or_ge}
-use Rattle.halves.proofs.Picks.{Picked, picks_start, picks_reach, picks_step, picks_end}
+use Rattle.halves.proofs.Picks.{picks_reach, picks_step}
 use Rattle.halves.proofs.turn_chosen.Goals as goal
 
 pub loop-w-smaller : goal.loop-w-smaller

@@ -1,11 +1,8 @@
 -- `halves::turn_chosen` meets its contract, by the walk over the keys that have all bits of low. Assumes nothing.
-use Prim.Native.Nat.{◌+◌, ◌-◌, ◌<◌}
-use native.Mathlib.Omega.{arith}
-use borrow.Author.Rules.{rules}
+use Prim.Native.Nat.{◌-◌}
 use lib.ListN.{length}
 use Rattle.book.specs.Answers.{buffers}
-use Rattle.pairs.proofs.Bits.{or_ge}
-use Rattle.halves.proofs.Picks.{Picked, picks_start, picks_reach, picks_step, picks_end}
+use Rattle.halves.proofs.Picks.{Picked}
 use Rattle.halves.proofs.turn_chosen.Given as goal
 
 abbrev pub invariant-loop-w : goal.invariant-loop-w

@@ -1,12 +1,9 @@
 -- `keys::by_keys` meets its contract, by the law of the loop over the keys; the matrix that was made is U's. Assumes nothing.
 use Prim.Native.Nat.{◌+◌, ◌-◌, ◌^◌, ◌<◌}
 use native.Mathlib.Omega.{arith}
-use borrow.Author.Rules.{rules}
-use Rattle.book.specs.Answers.{buffers}
 use Rattle.fed.proofs.Numbers.{made_once}
-use Rattle.fed.specs.Named.{fused_of}
 use Rattle.pairs.proofs.Bits.{or_ge}
-use Rattle.pairs.proofs.Keys.{Upto, size_is, small, starts, reach, asked, steps, ends}
+use Rattle.pairs.proofs.Keys.{size_is, steps, ends}
 use Rattle.keys.proofs.by_keys.Goals as goal
 
 pub loop-w-smaller : goal.loop-w-smaller

@@ -1,5 +1,4 @@
 -- `measurement::measure_qubit` meets its contract: the tests in order, then the collapse and the reset. Assumes nothing.
-use borrow.Author.Rules.{rules}
 use Rattle.measurement.proofs.Measured.{measure_kept, seat, measure_refused, measure_done, seat_still}
 use Rattle.measurement.proofs.measure_qubit.Goals as goal
 

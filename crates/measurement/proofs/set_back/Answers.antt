@@ -1,6 +1,5 @@
 -- `measurement::set_back` meets its contract, by outcome and reset. Assumes nothing.
-use borrow.Author.Rules.{rules}
-use borrow.Author.Tests.{eq-eqb, ne_eqb}
+use borrow.Author.Tests.{eq-eqb}
 use Rattle.measurement.proofs.Measured.{x_follows}
 use Rattle.measurement.proofs.set_back.Goals as goal
 

@@ -11,13 +11,15 @@ loop-base-init c = sums_start c.requires.0
 
 pub add_squares-sum-requires : goal.add_squares-sum-requires
 add_squares-sum-requires c = let bit_is : (shl c.args.target ≡ 2 ^ c.args.target) = shl_is c.args.target (small c.requires.0) in
-    let offset_is : (let a = c.args in a.outcome * 2 ^ a.target % 2 ^ 64 ≡ a.outcome * 2 ^ a.target) = half_offset c.args.outcome c.args.target c.requires.1 (small c.requires.0) in
+    let offset_is : (let a = c.args in a.outcome * 2 ^ a.target % 2 ^ 64 ≡ a.outcome * 2 ^ a.target) =
+    half_offset c.args.outcome c.args.target c.requires.1 (small c.requires.0) in
     let inside : (c.loop-base.base < 2 ^ c.args.n) = rw (shl_is c.args.n c.requires.0.fits) at c.loop-base-test.true in
     rw (offset_is, bit_is) (block_stretch c.requires.0 c.loop-base.invariant inside c.requires.1)
 
 pub loop-base-preserved : goal.loop-base-preserved
 loop-base-preserved c = let bit_is : (shl c.args.target ≡ 2 ^ c.args.target) = shl_is c.args.target (small c.requires.0) in
-    let offset_is : (let a = c.args in a.outcome * 2 ^ a.target % 2 ^ 64 ≡ a.outcome * 2 ^ a.target) = half_offset c.args.outcome c.args.target c.requires.1 (small c.requires.0) in
+    let offset_is : (let a = c.args in a.outcome * 2 ^ a.target % 2 ^ 64 ≡ a.outcome * 2 ^ a.target) =
+    half_offset c.args.outcome c.args.target c.requires.1 (small c.requires.0) in
     let inside : (c.loop-base.base < 2 ^ c.args.n) = rw (shl_is c.args.n c.requires.0.fits) at c.loop-base-test.true in
     let bit = 2 ^ c.args.target in
     let from = c.loop-base.base + c.args.outcome * bit in

@@ -12,7 +12,11 @@ abbrev run : Session → ℕ → List ℕ → ℕ → Run
 run s kept held index = record { index = index; form = form (meant s) kept held }
 
 abbrev pub invariant-loop-done : goal.invariant-loop-done
-invariant-loop-done l = (l.initial.index < 2 ^ 64) × (length l.piece < 2 ^ 64) × Going (run l.initial.session l.initial.kept l.initial.held l.initial.index) (buffers l.initial.reals l.initial.imags) l.piece l.initial.out l.behind l.done
+invariant-loop-done l =
+    (l.initial.index < 2 ^ 64)
+    × (length l.piece < 2 ^ 64)
+    × Going (run l.initial.session l.initial.kept l.initial.held l.initial.index) (buffers l.initial.reals l.initial.imags) l.piece l.initial.out l.behind
+    l.done
     (run l.session l.kept l.held l.index) (buffers l.reals l.imags) l.at l.out
 
 abbrev pub decreases-loop-done : goal.decreases-loop-done

@@ -22,7 +22,8 @@ left : (s e m : ℕ) → m ≤ e → size s + (e - m) ≤ 64 → (s * 2 ^ (e - m
 left s e m h k =
     shl_exact (size s) (e - m) 64 (size-lt s) k
     ∙ sym (cut_exact (s * 2 ^ (e - m)) m)
-    ∙ ap (λ (y : ℕ). cut_to_odd y m) (mul_assoc s (2 ^ (e - m)) (2 ^ m) ∙ ap (λ (y : ℕ). s * y) (sym (pow-add 2 (e - m) m) ∙ ap (λ (y : ℕ). 2 ^ y) (back m e h)))
+    ∙ ap (λ (y : ℕ). cut_to_odd y m)
+    (mul_assoc s (2 ^ (e - m)) (2 ^ m) ∙ ap (λ (y : ℕ). s * y) (sym (pow-add 2 (e - m) m) ∙ ap (λ (y : ℕ). 2 ^ y) (back m e h)))
 
 pub overflow_add-cut : goal.overflow_add-cut
 overflow_add-cut c = omega (arith, size-le c.args.s 64 (omega arith))

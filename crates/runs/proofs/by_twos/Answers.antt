@@ -5,21 +5,27 @@ use Rattle.pairs.proofs.Spaced.{walk_ends, two_room_next, two_asks, two_asks_nex
 use Rattle.runs.proofs.by_twos.Goals as goal
 
 pub overflow_add-i : goal.overflow_add-i
-overflow_add-i c = let near : (c.loop-i.i + c.args.stride + c.args.d < 2 ^ 24) = omega (arith, c.requires.small, two_room_next c.requires c.loop-i.invariant c.loop-i-test.true) in
+overflow_add-i c =
+    let near : (c.loop-i.i + c.args.stride + c.args.d < 2 ^ 24) =
+    omega (arith, c.requires.small, two_room_next c.requires c.loop-i.invariant c.loop-i-test.true) in
     omega (arith, near)
 
 pub read_pair-p-requires : goal.read_pair-p-requires
 read_pair-p-requires c = two_asks c.requires c.loop-i.invariant c.loop-i-test.true
 
 pub overflow_add-next-in-loop-i : goal.overflow_add-next-in-loop-i
-overflow_add-next-in-loop-i c = let near : (c.loop-i.i + c.args.stride + c.args.d < 2 ^ 24) = omega (arith, c.requires.small, two_room_next c.requires c.loop-i.invariant c.loop-i-test.true) in
+overflow_add-next-in-loop-i c =
+    let near : (c.loop-i.i + c.args.stride + c.args.d < 2 ^ 24) =
+    omega (arith, c.requires.small, two_room_next c.requires c.loop-i.invariant c.loop-i-test.true) in
     omega (arith, near, c.requires.narrow)
 
 pub read_pair-q-requires : goal.read_pair-q-requires
 read_pair-q-requires c = two_asks_next c.requires c.loop-i.invariant c.loop-i-test.true
 
 pub overflow_add-i-in-loop-i : goal.overflow_add-i-in-loop-i
-overflow_add-i-in-loop-i c = let near : (c.loop-i.i + c.args.stride + c.args.d < 2 ^ 24) = omega (arith, c.requires.small, two_room_next c.requires c.loop-i.invariant c.loop-i-test.true) in
+overflow_add-i-in-loop-i c =
+    let near : (c.loop-i.i + c.args.stride + c.args.d < 2 ^ 24) =
+    omega (arith, c.requires.small, two_room_next c.requires c.loop-i.invariant c.loop-i-test.true) in
     omega (arith, near, c.requires.narrow)
 
 pub write_two-requires : goal.write_two-requires
@@ -27,7 +33,9 @@ write_two-requires c = two_asks_four c.requires
     c.loop-i.invariant c.loop-i-test.true
 
 pub overflow_add-i-in-loop-i-2 : goal.overflow_add-i-in-loop-i-2
-overflow_add-i-in-loop-i-2 c = let near : (c.loop-i.i + c.args.stride + c.args.d < 2 ^ 24) = omega (arith, c.requires.small, two_room_next c.requires c.loop-i.invariant c.loop-i-test.true) in
+overflow_add-i-in-loop-i-2 c =
+    let near : (c.loop-i.i + c.args.stride + c.args.d < 2 ^ 24) =
+    omega (arith, c.requires.small, two_room_next c.requires c.loop-i.invariant c.loop-i-test.true) in
     omega (arith, near, c.requires.narrow)
 
 pub loop-i-preserved : goal.loop-i-preserved

@@ -11,37 +11,44 @@ loop-u-init c = turns_start c.requires
 
 pub overflow_sub-e : goal.overflow_sub-e
 overflow_sub-e c = let below : (c.loop-u.u < 2 ^ c.args.n) = omega (arith, c.loop-u-test.true, c.requires.keyed.reals) in
-    let turn : (Numbers c.args.n c.args.run c.args.stride c.args.back0 c.args.back1 c.loop-u.u (buffers c.loop-u.reals c.loop-u.imags)) = numbers c.requires c.loop-u.invariant below in
+    let turn : (Numbers c.args.n c.args.run c.args.stride c.args.back0 c.args.back1 c.loop-u.u (buffers c.loop-u.reals c.loop-u.imags)) =
+    numbers c.requires c.loop-u.invariant below in
     omega (arith, turn)
 
 pub slice_bounds-part-count : goal.slice_bounds-part-count
 slice_bounds-part-count c = let below : (c.loop-u.u < 2 ^ c.args.n) = omega (arith, c.loop-u-test.true, c.requires.keyed.reals) in
-    let turn : (Numbers c.args.n c.args.run c.args.stride c.args.back0 c.args.back1 c.loop-u.u (buffers c.loop-u.reals c.loop-u.imags)) = numbers c.requires c.loop-u.invariant below in
+    let turn : (Numbers c.args.n c.args.run c.args.stride c.args.back0 c.args.back1 c.loop-u.u (buffers c.loop-u.reals c.loop-u.imags)) =
+    numbers c.requires c.loop-u.invariant below in
     omega (arith, turn)
 
 pub slice_bounds-part-start : goal.slice_bounds-part-start
 slice_bounds-part-start c = let below : (c.loop-u.u < 2 ^ c.args.n) = omega (arith, c.loop-u-test.true, c.requires.keyed.reals) in
-    let turn : (Numbers c.args.n c.args.run c.args.stride c.args.back0 c.args.back1 c.loop-u.u (buffers c.loop-u.reals c.loop-u.imags)) = numbers c.requires c.loop-u.invariant below in
+    let turn : (Numbers c.args.n c.args.run c.args.stride c.args.back0 c.args.back1 c.loop-u.u (buffers c.loop-u.reals c.loop-u.imags)) =
+    numbers c.requires c.loop-u.invariant below in
     omega (arith, turn)
 
 pub slice_bounds-part-end : goal.slice_bounds-part-end
 slice_bounds-part-end c = let below : (c.loop-u.u < 2 ^ c.args.n) = omega (arith, c.loop-u-test.true, c.requires.keyed.reals) in
-    let turn : (Numbers c.args.n c.args.run c.args.stride c.args.back0 c.args.back1 c.loop-u.u (buffers c.loop-u.reals c.loop-u.imags)) = numbers c.requires c.loop-u.invariant below in
+    let turn : (Numbers c.args.n c.args.run c.args.stride c.args.back0 c.args.back1 c.loop-u.u (buffers c.loop-u.reals c.loop-u.imags)) =
+    numbers c.requires c.loop-u.invariant below in
     omega (arith, turn)
 
 pub slice_bounds-part-count-in-loop-u : goal.slice_bounds-part-count-in-loop-u
 slice_bounds-part-count-in-loop-u c = let below : (c.loop-u.u < 2 ^ c.args.n) = omega (arith, c.loop-u-test.true, c.requires.keyed.reals) in
-    let turn : (Numbers c.args.n c.args.run c.args.stride c.args.back0 c.args.back1 c.loop-u.u (buffers c.loop-u.reals c.loop-u.imags)) = numbers c.requires c.loop-u.invariant below in
+    let turn : (Numbers c.args.n c.args.run c.args.stride c.args.back0 c.args.back1 c.loop-u.u (buffers c.loop-u.reals c.loop-u.imags)) =
+    numbers c.requires c.loop-u.invariant below in
     omega (arith, turn)
 
 pub slice_bounds-part-start-in-loop-u : goal.slice_bounds-part-start-in-loop-u
 slice_bounds-part-start-in-loop-u c = let below : (c.loop-u.u < 2 ^ c.args.n) = omega (arith, c.loop-u-test.true, c.requires.keyed.reals) in
-    let turn : (Numbers c.args.n c.args.run c.args.stride c.args.back0 c.args.back1 c.loop-u.u (buffers c.loop-u.reals c.loop-u.imags)) = numbers c.requires c.loop-u.invariant below in
+    let turn : (Numbers c.args.n c.args.run c.args.stride c.args.back0 c.args.back1 c.loop-u.u (buffers c.loop-u.reals c.loop-u.imags)) =
+    numbers c.requires c.loop-u.invariant below in
     omega (arith, turn)
 
 pub slice_bounds-part-end-in-loop-u : goal.slice_bounds-part-end-in-loop-u
 slice_bounds-part-end-in-loop-u c = let below : (c.loop-u.u < 2 ^ c.args.n) = omega (arith, c.loop-u-test.true, c.requires.keyed.reals) in
-    let turn : (Numbers c.args.n c.args.run c.args.stride c.args.back0 c.args.back1 c.loop-u.u (buffers c.loop-u.reals c.loop-u.imags)) = numbers c.requires c.loop-u.invariant below in
+    let turn : (Numbers c.args.n c.args.run c.args.stride c.args.back0 c.args.back1 c.loop-u.u (buffers c.loop-u.reals c.loop-u.imags)) =
+    numbers c.requires c.loop-u.invariant below in
     omega (arith, turn)
 
 pub part-requires : goal.part-requires
@@ -50,7 +57,8 @@ part-requires c = let below : (c.loop-u.u < 2 ^ c.args.n) = omega (arith, c.loop
 
 pub loop-u-smaller : goal.loop-u-smaller
 loop-u-smaller c = let below : (c.loop-u.u < 2 ^ c.args.n) = omega (arith, c.loop-u-test.true, c.requires.keyed.reals) in
-    let turn : (Numbers c.args.n c.args.run c.args.stride c.args.back0 c.args.back1 c.loop-u.u (buffers c.loop-u.reals c.loop-u.imags)) = numbers c.requires c.loop-u.invariant below in
+    let turn : (Numbers c.args.n c.args.run c.args.stride c.args.back0 c.args.back1 c.loop-u.u (buffers c.loop-u.reals c.loop-u.imags)) =
+    numbers c.requires c.loop-u.invariant below in
     omega (arith, c.loop-u-test.true, turn.low, turn.some, or_ge (c.loop-u.u + c.args.run) c.args.wide)
 
 pub loop-u-preserved : goal.loop-u-preserved

@@ -1,5 +1,4 @@
 -- `swaps::swap_bits` meets its contract: SWAP does not mind the order of its qubits. Assumes nothing.
-use borrow.Author.Rules.{rules}
 use Rattle.pairs.proofs.Swap.{swap_either}
 use Rattle.swaps.proofs.swap_bits.Goals as goal
 

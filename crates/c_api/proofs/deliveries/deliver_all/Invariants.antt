@@ -9,7 +9,9 @@ use Rattle.once.specs.AllOnce.{bench}
 use Rattle.c_api.proofs.deliveries.deliver_all.Given as goal
 
 abbrev pub invariant-loop-i : goal.invariant-loop-i
-invariant-loop-i l = Left l.bytes l.lengths (bench (session_in l.initial.session) (buffers l.initial.reals l.initial.imags)) l.at l.i (bench (session_in l.session) (buffers l.reals l.imags))
+invariant-loop-i l =
+    Left l.bytes l.lengths (bench (session_in l.initial.session) (buffers l.initial.reals l.initial.imags)) l.at l.i
+    (bench (session_in l.session) (buffers l.reals l.imags))
 
 abbrev pub decreases-loop-i : goal.decreases-loop-i
 decreases-loop-i l = length l.lengths - l.i

@@ -18,12 +18,14 @@ overflow_sub-result c = let limb : ((c.args.a.lo < 2 ^ 64) × (c.args.b.lo < 2 ^
 
 pub overflow_sub-result-else-bl-al : goal.overflow_sub-result-else-bl-al
 unfolding limbs
-overflow_sub-result-else-bl-al c = let upper : (c.args.a.lo < c.args.b.lo → c.args.b.hi < c.args.a.hi) = λ h. borrowed (2 ^ 64) c.args.a.hi c.args.a.lo c.args.b.hi c.args.b.lo c.requires h in
+overflow_sub-result-else-bl-al c =
+    let upper : (c.args.a.lo < c.args.b.lo → c.args.b.hi < c.args.a.hi) = λ h. borrowed (2 ^ 64) c.args.a.hi c.args.a.lo c.args.b.hi c.args.b.lo c.requires h in
     le_of_lt (upper c.if-bl-al.false)
 
 pub overflow_sub-result-else-bl-al-2 : goal.overflow_sub-result-else-bl-al-2
 unfolding limbs
-overflow_sub-result-else-bl-al-2 c = let upper : (c.args.a.lo < c.args.b.lo → c.args.b.hi < c.args.a.hi) = λ h. borrowed (2 ^ 64) c.args.a.hi c.args.a.lo c.args.b.hi c.args.b.lo c.requires h in
+overflow_sub-result-else-bl-al-2 c =
+    let upper : (c.args.a.lo < c.args.b.lo → c.args.b.hi < c.args.a.hi) = λ h. borrowed (2 ^ 64) c.args.a.hi c.args.a.lo c.args.b.hi c.args.b.lo c.requires h in
     pos_diff c.args.a.hi c.args.b.hi (upper c.if-bl-al.false)
 
 pub returns-then-bl-al : goal.returns-then-bl-al
