@@ -14,11 +14,11 @@ pub record Small (side places : ℕ) : Type 0 where
 unfoldable pub row_sum : Buffers → ℕ → Amplitude → Buffers → ℕ → State
 row_sum out from a b start j = add_product (at out (from + j)) a (at b (start + j))
 
--- the row of A-as-B that stands in A from `from` on, with the inner indices below `inner`
+-- the row of A·B that stands in A from `from` on, with the inner indices below `inner`
 unfoldable pub row_dot : ℕ → ℕ → Buffers → Buffers → ℕ → State
 row_dot side from a b inner j = dot (λ k. at a (from + k)) (λ k. at b (k * side + j)) inner
 
--- A-as-B, place by place
+-- A·B, place by place
 unfoldable pub product_at : ℕ → Buffers → Buffers → State
 unfolding row_dot
 product_at side a b place = row_dot side (place / side * side) a b side (place % side)

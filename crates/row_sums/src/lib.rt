@@ -60,7 +60,7 @@ fn fill_row(
     }
 }
 
-// Every row of A.B.
+// Every row of A·B.
 pub fn fill_product(
     ar: &[f64],
     ai: &[f64],
