@@ -5,9 +5,9 @@
 mod deliveries;
 mod feeds;
 mod kernels;
-mod matrices;
-mod records;
-mod slow;
+mod matrix_calls;
+mod record_calls;
+mod slow_calls;
 
 ghost use Rattle.std.specs.Prelude.{◌≡◌};
 ghost use Rattle.std.specs.Float.{binary64};
