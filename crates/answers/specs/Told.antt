@@ -1,6 +1,5 @@
 -- How an answer stands in one number: the low byte is a refusal's number or a value, and what stands above it says which. Definitions only. Assumes nothing.
-use Rattle.std.specs.Prelude.{ℕ, ◌+◌, ◌<◌, ◌≡◌}
-use Rattle.std.proofs.Math.Option.{Option, some, none}
+use Rattle.std.specs.Prelude.{ℕ, ◌+◌, ◌<◌, ◌≡◌, Option, Some, None}
 use Rattle.book.specs.Answers.{Said, taken, value, refused, Replied, again, said, replies}
 use Rattle.book.specs.declared.Reply.{Reply}
 use Rattle.book.specs.declared.Reply.TheVariants.{Again, Said as Says}
@@ -14,8 +13,8 @@ said_number (refused k) = k
 
 -- 256 for AGAIN, 512 + v for an AGAIN that tells the value v
 abbrev pub again_number : Option ℕ → ℕ
-again_number none = 256
-again_number (some v) = 512 + v
+again_number None = 256
+again_number (Some v) = 512 + v
 
 abbrev pub replied_number : Replied → ℕ
 replied_number (again v) = again_number v

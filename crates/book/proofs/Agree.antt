@@ -4,9 +4,8 @@ use Prim.Native.Nat.{ℕ, ◌-◌}
 use mathlib.Core.List.{[], ◌∷◌}
 use mathlib.Core.Path.{◌≡◌, refl, sym, ap, ◌∙◌}
 use lib.ListN.{get_or}
-use Rattle.book.specs.Answers.{number_of, Said, taken, value, refused, says, Buffers, Outcome, Does}
-use Rattle.book.specs.declared.Answer.{Answer}
-use Rattle.book.specs.declared.Answer.TheVariants.{Taken, Value, Refused}
+use Rattle.std.specs.Prelude.{Some, None, Result, Ok, Err}
+use Rattle.book.specs.Answers.{number_of, Said, taken, value, refused, Answer, says, Gives, gives, denied, gives_of, Buffers, Outcome, Does}
 use Rattle.book.specs.declared.Refusal.{Refusal}
 use Rattle.book.specs.declared.Refusal.TheVariants.{Size, Length, Qubit, Same, Form, Number, Chance, Record, Session, Early, Full, Room}
 
@@ -34,14 +33,14 @@ refusal_back Full = refl
 refusal_back Room = refl
 
 abbrev pub answer_of : Said → Answer
-answer_of taken = Taken
-answer_of (value v) = Value v
-answer_of (refused k) = Refused (refusal_of k)
+answer_of taken = Ok None
+answer_of (value v) = Ok (Some v)
+answer_of (refused k) = Err (refusal_of k)
 
 pub answer_back : (a : Answer) → answer_of (says a) ≡ a
-answer_back Taken = refl
-answer_back (Value v) = refl
-answer_back (Refused r) = ap Refused (refusal_back r)
+answer_back (Ok None) = refl
+answer_back (Ok (Some v)) = refl
+answer_back (Err r) = ap Err (refusal_back r)
 
 pub says_agree : {a a' : Answer} {s : Said} → says a ≡ s → says a' ≡ s → a ≡ a'
 says_agree = agree says answer_of answer_back
@@ -49,3 +48,15 @@ says_agree = agree says answer_of answer_back
 -- a kernel, a measurement, a matrix call
 pub does_agree : {o : Outcome} {a a' : Answer} {b b' : Buffers} → Does o a b → Does o a' b' → (a ≡ a') × (b ≡ b')
 does_agree x y = (says_agree x.answers y.answers, x.leaves ∙ sym y.leaves)
+
+-- a call that hands over a result
+abbrev pub result_of : {A : Type 0} → Gives A → Result A Refusal
+result_of (gives a) = Ok a
+result_of (denied k) = Err (refusal_of k)
+
+pub result_back : {A : Type 0} (r : Result A Refusal) → result_of (gives_of r) ≡ r
+result_back (Ok a) = refl
+result_back (Err r) = ap Err (refusal_back r)
+
+pub gives_agree : {A : Type 0} {r r' : Result A Refusal} {g : Gives A} → gives_of r ≡ g → gives_of r' ≡ g → r ≡ r'
+gives_agree = agree gives_of result_of result_back

@@ -2,18 +2,16 @@
 use Prim.Native.Nat.{ℕ, zero, suc}
 use mathlib.Core.Bool.{false}
 use mathlib.Core.List.{List, [], ◌++◌}
-use mathlib.Core.Option.{Option, some, none}
+use Rattle.std.specs.Prelude.{Option, Some, None, Err}
 use mathlib.Core.Path.{◌≡◌, refl, sym, ap, subst}
 use native.Mathlib.Omega.{arith}
 use lib.Dec.{T}
-use Rattle.book.specs.Answers.{number_of, refused, says, Test, first, Buffers, Call, accepted, unless, outcome_of, accepts, Does}
-use Rattle.book.specs.declared.Answer.{Answer}
-use Rattle.book.specs.declared.Answer.TheVariants.{Refused}
+use Rattle.book.specs.Answers.{number_of, refused, Answer, says, Test, first, Buffers, Call, accepted, unless, outcome_of, accepts, Does}
 use Rattle.book.specs.declared.Refusal.{Refusal}
 use Rattle.book.specs.declared.Refusal.TheVariants.{Size, Length, Qubit, Same, Form, Number, Chance, Record, Session, Early, Full, Room}
 use Rattle.book.proofs.Refusals.{numbered, first_clear, first_stays}
 
-refusal : (r : Refusal) (b : Buffers) (work : Call) → Does (unless (number_of r) b work) (Refused r) b
+refusal : (r : Refusal) (b : Buffers) (work : Call) → Does (unless (number_of r) b work) (Err r) b
 refusal Size b work = record { answers = refl; leaves = refl }
 refusal Length b work = record { answers = refl; leaves = refl }
 refusal Qubit b work = record { answers = refl; leaves = refl }
@@ -28,8 +26,8 @@ refusal Full b work = record { answers = refl; leaves = refl }
 refusal Room b work = record { answers = refl; leaves = refl }
 
 -- a refusal returns its number, and nothing changed
-pub refuses : (r : Refusal) {k : ℕ} (b : Buffers) (work : Call) → k ≡ number_of r → Does (unless k b work) (Refused r) b
-refuses r b work e = subst (λ (j : ℕ). Does (unless j b work) (Refused r) b) (sym e) (refusal r b work)
+pub refuses : (r : Refusal) {k : ℕ} (b : Buffers) (work : Call) → k ≡ number_of r → Does (unless k b work) (Err r) b
+refuses r b work e = subst (λ (j : ℕ). Does (unless j b work) (Err r) b) (sym e) (refusal r b work)
 
 -- with no refusal the call does its work
 pub takes : {k : ℕ} {answer : Answer} {after : Buffers} (b : Buffers) (work : Call) → k ≡ 0 → says answer ≡ accepted work.answer → after ≡ work.left
@@ -44,8 +42,8 @@ module _ (b : Buffers) (c : Call) where
   unless_refused zero h = by c.answer h
     where
       by : (v : Option ℕ) → accepts (accepted v) ≡ false → c.left ≡ b
-      by none e = absurd (let z : ◌≡◌ {A = ℕ} 0 1 = cc e in omega arith)
-      by (some v) e = absurd (let z : ◌≡◌ {A = ℕ} 0 1 = cc e in omega arith)
+      by None e = absurd (let z : ◌≡◌ {A = ℕ} 0 1 = cc e in omega arith)
+      by (Some v) e = absurd (let z : ◌≡◌ {A = ℕ} 0 1 = cc e in omega arith)
   unless_refused (suc k) h = refl
 
   -- a call that is refused leaves the buffers as they were

@@ -4,7 +4,7 @@ use Prim.Native.Nat.{ℕ, zero, suc, ◌+◌, ◌^◌, ◌<◌}
 use mathlib.Core.Bool.{Bool, true, false, cond}
 use mathlib.Core.List.{List, [], ◌∷◌, ◌++◌, append-nil, append_assoc, flat_map}
 use mathlib.Core.Logic.{inl, inr, ⊎_elim}
-use mathlib.Core.Option.{Option, some, none}
+use Rattle.std.specs.Prelude.{Option, Some, None}
 use mathlib.Core.Path.{◌≡◌, refl, sym, ap, ap₂, ◌∙◌, subst}
 use native.Mathlib.Nat.{add-zero, zero-add}
 use native.Mathlib.Numerals.{add-one}
@@ -64,30 +64,30 @@ numbered_at own j (x ∷ rs) (suc i) d w h = let at = numbered_at own (j + 1) rs
 -- ---- what records give
 
 -- a gate was taken, and the rest gave e
-went : (t : Bool) (rest : Option Buffers) (e : Buffers) → cond t rest none ≡ some e → (t ≡ true) × (rest ≡ some e)
+went : (t : Bool) (rest : Option Buffers) (e : Buffers) → cond t rest None ≡ Some e → (t ≡ true) × (rest ≡ Some e)
 went true rest e h = (refl, h)
 went false rest e h = let z : ◌≡◌ {A = ℕ} 0 1 = cc in absurd (omega arith)
 
 module _ (n : ℕ) where
-  give_start : (xs ys : List Record) (b e : Buffers) → give n b (xs ++ ys) ≡ some e → (mid : Buffers) × (give n b xs ≡ some mid) × (give n mid ys ≡ some e)
+  give_start : (xs ys : List Record) (b e : Buffers) → give n b (xs ++ ys) ≡ Some e → (mid : Buffers) × (give n b xs ≡ Some mid) × (give n mid ys ≡ Some e)
   give_start [] ys b e h = (b, refl, h)
   give_start (r ∷ xs) ys b e h =
       let (t, rest) = went (accepts (act n r.gate b).says) (give n (act n r.gate b).left (xs ++ ys)) e h in
       let m = give_start xs ys (act n r.gate b).left e rest in
-      (m.0, ap (λ (t : Bool). cond t (give n (act n r.gate b).left xs) none) t ∙ m.1, m.2)
+      (m.0, ap (λ (t : Bool). cond t (give n (act n r.gate b).left xs) None) t ∙ m.1, m.2)
 
-  give_one_more : (xs : List Record) (r : Record) (b mid : Buffers) → give n b xs ≡ some mid → accepts (act n r.gate mid).says ≡ true
-      → give n b (xs ++ (r ∷ [])) ≡ some (act n r.gate mid).left
+  give_one_more : (xs : List Record) (r : Record) (b mid : Buffers) → give n b xs ≡ Some mid → accepts (act n r.gate mid).says ≡ true
+      → give n b (xs ++ (r ∷ [])) ≡ Some (act n r.gate mid).left
   give_one_more [] r b mid h a =
       let p : b ≡ mid = cc h in
-      subst (λ (m : Buffers). cond (accepts (act n r.gate m).says) (some (act n r.gate m).left) none ≡ some (act n r.gate mid).left) (sym p) (rw a)
+      subst (λ (m : Buffers). cond (accepts (act n r.gate m).says) (Some (act n r.gate m).left) None ≡ Some (act n r.gate mid).left) (sym p) (rw a)
   give_one_more (y ∷ xs) r b mid h a =
       let (t, rest) = went (accepts (act n y.gate b).says) (give n (act n y.gate b).left xs) mid h in
-      ap (λ (t : Bool). cond t (give n (act n y.gate b).left (xs ++ (r ∷ []))) none) t
+      ap (λ (t : Bool). cond t (give n (act n y.gate b).left (xs ++ (r ∷ []))) None) t
       ∙ give_one_more xs r (act n y.gate b).left mid rest a
 
   -- the last of them has its value from what those before it gave
-  last_one_more : (xs : List Record) (r : Record) (b mid : Buffers) (v : Option ℕ) → give n b xs ≡ some mid
+  last_one_more : (xs : List Record) (r : Record) (b mid : Buffers) (v : Option ℕ) → give n b xs ≡ Some mid
       → last_value n b v (xs ++ (r ∷ [])) ≡ (call_of n r.gate mid).answer
   last_one_more [] r b mid v h = let p : b ≡ mid = cc h in ap (λ (m : Buffers). (call_of n r.gate m).answer) p
   last_one_more (y ∷ xs) r b mid v h =
@@ -96,13 +96,13 @@ module _ (n : ℕ) where
 
   -- where all are accepted, the next one is
   next_accepted : (rs : List Record) (r : Record) (k : ℕ) (b mid e : Buffers) → take (suc k) rs ≡ take k rs ++ (r ∷ [])
-      → give n b rs ≡ some e → give n b (take k rs) ≡ some mid → accepts (act n r.gate mid).says ≡ true
+      → give n b rs ≡ Some e → give n b (take k rs) ≡ Some mid → accepts (act n r.gate mid).says ≡ true
   next_accepted rs r k b mid e start all now =
       let x = give_start (take (suc k) rs) (drop (suc k) rs) b e (ap (give n b) (take-append-drop (suc k) rs) ∙ all) in
       let y = give_start (take k rs) (r ∷ []) b x.0 (ap (give n b) (sym start) ∙ x.1) in
       let same : y.0 ≡ mid = cc (y.1, now) in
       subst (λ (m : Buffers). accepts (act n r.gate m).says ≡ true) same
-      (went (accepts (act n r.gate y.0).says) (some (act n r.gate y.0).left) x.0 y.2).0
+      (went (accepts (act n r.gate y.0).says) (Some (act n r.gate y.0).left) x.0 y.2).0
 
 -- ---- the mark
 
@@ -137,12 +137,12 @@ module _ (n own : ℕ) (b₀ : Buffers) (rs : List Record) (g : Given n own b₀
     n_is : s.n ≡ n
     own_is : s.number ≡ own
     longest : Longest s.count rs xs
-    state : give n b₀ (take s.count rs) ≡ some b
-    value : s.value ≡ last_value n b₀ none (take s.count rs)
+    state : give n b₀ (take s.count rs) ≡ Some b
+    value : s.value ≡ last_value n b₀ None (take s.count rs)
     mark : s.mark ≡ marked 0 (flat_map write_record (take s.count rs))
     fits : bad_length (2 ^ n) b ≡ false
 
-  started : (t : Bool) → cond t none (some (fresh n own)) ≡ some g.session → (t ≡ false) × (g.session ≡ fresh n own)
+  started : (t : Bool) → cond t None (Some (fresh n own)) ≡ Some g.session → (t ≡ false) × (g.session ≡ fresh n own)
   started true e = let z : ◌≡◌ {A = ℕ} 0 1 = cc in absurd (omega arith)
   started false e = (refl, cc)
 
@@ -190,14 +190,14 @@ module _ (n own : ℕ) (b₀ : Buffers) (rs : List Record) (g : Given n own b₀
         unfolding k
         repeated m =
             let x = again (told_again s.count s.value r.number) in
-            stays (xs ++ (r ∷ [])) d x (answered (some x) (rw (theirs, not_full, lt-ltb r.number s.count m)))
+            stays (xs ++ (r ∷ [])) d x (answered (Some x) (rw (theirs, not_full, lt-ltb r.number s.count m)))
             (not_next (λ e. omega arith))
 
         early : s.count < r.number → Holds (xs ++ (r ∷ [])) d.next d.left
         unfolding k
         early m =
             stays (xs ++ (r ∷ [])) d (said (refused 10))
-            (answered (some (said (refused 10))) (rw (theirs, not_full, le-ltb r.number s.count (omega arith), lt-ltb s.count r.number m)))
+            (answered (Some (said (refused 10))) (rw (theirs, not_full, le-ltb r.number s.count (omega arith), lt-ltb s.count r.number m)))
             (not_next (λ e. omega arith))
 
         next : r.number ≡ s.count → Holds (xs ++ (r ∷ [])) d.next d.left
@@ -208,21 +208,21 @@ module _ (n own : ℕ) (b₀ : Buffers) (rs : List Record) (g : Given n own b₀
             let took : accepts (act n r.gate b).says ≡ true = next_accepted n rs r k b₀ b g.last start g.accepted h.state in
             let does : outcome_of [] b (call_of s.n r.gate b) ≡ act n r.gate b =
             ap (λ (m : ℕ). outcome_of [] b (call_of m r.gate b)) h.n_is ∙ acts b h.fits r in
-            let goes : standing s r ≡ none =
+            let goes : standing s r ≡ None =
             rw (theirs, not_full, le-ltb r.number s.count (omega arith), le-ltb s.count r.number (omega arith)) in
             let value : (call_of s.n r.gate b).answer ≡ (call_of n r.gate b).answer = ap (λ (m : ℕ). (call_of m r.gate b).answer) h.n_is in
             let made : d ≡ record {
               next = raised s r (call_of n r.gate b).answer;
               says = said (act n r.gate b).says;
               left = (act n r.gate b).left;
-            } = answered none goes ∙ ap₂ (λ (v : Option ℕ) (o : Outcome). counted s b r v o) value does ∙ rw took in
+            } = answered None goes ∙ ap₂ (λ (v : Option ℕ) (o : Outcome). counted s b r v o) value does ∙ rw took in
             rw made
             (record {
               n_is = h.n_is;
               own_is = h.own_is;
               longest = longest_next r h.longest (omega (arith, p.within)) start;
               state = rw (add-one, start) (give_one_more n (take k rs) r b₀ b h.state took);
-              value = rw (add-one, start) (sym (last_one_more n (take k rs) r b₀ b none h.state));
+              value = rw (add-one, start) (sym (last_one_more n (take k rs) r b₀ b None h.state));
               mark = rw (add-one, start) (mark_one_more (take k rs) r s.mark h.mark);
               fits = act_fits n b h.fits r.gate;
             })
@@ -240,7 +240,7 @@ module _ (n own : ℕ) (b₀ : Buffers) (rs : List Record) (g : Given n own b₀
         → Holds (xs ++ (r ∷ [])) d.next d.left
     unfolding k
     other_session r other d is =
-        let nine : standing s r ≡ some (said (refused 9)) = rw (ne_eqb r.session s.number (λ e. other (e ∙ h.own_is))) in
+        let nine : standing s r ≡ Some (said (refused 9)) = rw (ne_eqb r.session s.number (λ e. other (e ∙ h.own_is))) in
         stays (xs ++ (r ∷ [])) d (said (refused 9)) (is ∙ ap (take_record s b r) nine)
         (longest_same r h.longest (λ room e. other (ap (λ (y : Record). y.session) (sym e) ∙ (numbered_at own 0 rs k r g.made room).0)))
 
@@ -267,8 +267,8 @@ module _ (n own : ℕ) (b₀ : Buffers) (rs : List Record) (g : Given n own b₀
   -- ---- all deliveries
 
   cons_append : (x : Option Record) (ys : List Record) → cons x [] ++ ys ≡ cons x ys
-  cons_append (some r) ys = refl
-  cons_append none ys = refl
+  cons_append (Some r) ys = refl
+  cons_append None ys = refl
 
   steps : (ds : List (List ℕ)) (xs : List Record) (s : Session) (b : Buffers) → AllOf own rs ds → Holds xs s b
       → let bench = deliver_all (record { session = s; state = b }) ds in
@@ -291,8 +291,8 @@ seen_append [] bytes = refl
 seen_append (d ∷ ds) bytes = by (read_record d) (seen ds) (cons (read_record bytes) []) (seen (ds ++ (bytes ∷ []))) (seen_append ds bytes)
   where
     by : (x : Option Record) (xs ys zs : List Record) → xs ++ ys ≡ zs → cons x xs ++ ys ≡ cons x zs
-    by (some r) xs ys zs e = ap (λ (l : List Record). r ∷ l) e
-    by none xs ys zs e = e
+    by (Some r) xs ys zs e = ap (λ (l : List Record). r ∷ l) e
+    by None xs ys zs e = e
 
 -- the session that was started is the fresh one
 pub fresh_is : {n own : ℕ} {b : Buffers} {rs : List Record} (g : Given n own b rs) → g.session ≡ fresh n own
@@ -322,16 +322,16 @@ module _ (s : Session) (b : Buffers) where
   counted_own r false v x left = same_own s
 
   record_own : (r : Record) (x : Option Replied) → Own s (take_record s b r x).next
-  record_own r (some x) = same_own s
-  record_own r none =
+  record_own r (Some x) = same_own s
+  record_own r None =
       let c = call_of s.n r.gate b in
       let o = outcome_of [] b c in
       counted_own r (accepts o.says) c.answer (said o.says) o.left
 
   read_own : (k : ℕ) (o : Option Record) → Own s (take_read s b k o).next
   read_own (suc k) o = same_own s
-  read_own zero none = same_own s
-  read_own zero (some r) = record_own r (standing s r)
+  read_own zero None = same_own s
+  read_own zero (Some r) = record_own r (standing s r)
 
 pub keeps_its_own : (s : Session) (b : Buffers) (bytes : List ℕ) → Own s (deliver s b bytes).next
 unfolding deliver

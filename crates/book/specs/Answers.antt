@@ -1,12 +1,7 @@
 -- The refusal numbers, what a call says, and which refusal is given where several apply. Definitions only. Assumes nothing.
-use Rattle.std.specs.Prelude.{ℕ, zero, suc, Bool, true, false, cond, List, [], ◌∷◌, ◌++◌, ◌≡◌, Float}
-use Rattle.std.proofs.Math.Option.{Option, some, none}
+use Rattle.std.specs.Prelude.{ℕ, zero, suc, Bool, true, false, cond, List, [], ◌∷◌, ◌++◌, ◌≡◌, Float, Option, Some, None, Result, Ok, Err}
 use Rattle.book.specs.declared.Refusal.{Refusal}
 use Rattle.book.specs.declared.Refusal.TheVariants.{Size, Length, Qubit, Same, Form, Number, Chance, Record, Session, Early, Full, Room}
-use Rattle.book.specs.declared.Answer.{Answer}
-use Rattle.book.specs.declared.Answer.TheVariants.{Taken, Value, Refused}
-use Rattle.book.specs.declared.ValueOrNone.{ValueOrNone}
-use Rattle.book.specs.declared.ValueOrNone.TheVariants.{None, Value as ValueIs}
 use Rattle.book.specs.declared.Reply.{Reply}
 use Rattle.book.specs.declared.Reply.TheVariants.{Again, Said as Says}
 
@@ -31,14 +26,14 @@ pub data Said : Type 0 where
   value : ℕ → Said
   refused : ℕ → Said
 
-abbrev pub says : Answer → Said
-says Taken = taken
-says (Value v) = value v
-says (Refused r) = refused (number_of r)
+-- what a call answers in the code: a value or none, or a refusal
+abbrev pub Answer : Type 0
+Answer = Result (Option ℕ) Refusal
 
-abbrev pub value_or_none : ValueOrNone → Option ℕ
-value_or_none None = none
-value_or_none (ValueIs v) = some v
+abbrev pub says : Answer → Said
+says (Ok None) = taken
+says (Ok (Some v)) = value v
+says (Err r) = refused (number_of r)
 
 -- what a delivery says: AGAIN, with the value that it tells or none, or what a call says
 pub data Replied : Type 0 where
@@ -46,7 +41,7 @@ pub data Replied : Type 0 where
   said : Said → Replied
 
 abbrev pub replies : Reply → Replied
-replies (Again v) = again (value_or_none v)
+replies (Again v) = again v
 replies (Says x) = said (says x)
 
 -- what a call gives that has a result to hand over: it, or a refusal's number
@@ -56,8 +51,13 @@ pub data Gives (A : Type 0) : Type 0 where
 
 -- where there is none, this refusal
 abbrev pub or_denied : {A : Type 0} → ℕ → Option A → Gives A
-or_denied k (some a) = gives a
-or_denied k none = denied k
+or_denied k (Some a) = gives a
+or_denied k None = denied k
+
+-- what the code's result gives
+abbrev pub gives_of : {A : Type 0} → Result A Refusal → Gives A
+gives_of (Ok a) = gives a
+gives_of (Err r) = denied (number_of r)
 
 -- ---- tests
 
@@ -100,8 +100,8 @@ abbrev pub call : List Test → Option ℕ → Buffers → Call
 call tests v left = record { tests = tests; answer = v; left = left }
 
 abbrev pub accepted : Option ℕ → Said
-accepted none = taken
-accepted (some v) = value v
+accepted None = taken
+accepted (Some v) = value v
 
 -- A refusal returns its number, and the buffers keep what they held. With none the call does its work.
 abbrev pub unless : ℕ → Buffers → Call → Outcome

@@ -1,8 +1,7 @@
 -- Demand 3: exactly once. What it speaks of, and the statement; proofs/ExactlyOnce.antt proves it. Definitions only. Assumes nothing.
 -- "Found in order" and "longest" speak of lists alone: the session's count has no part in them.
-use Rattle.std.specs.Prelude.{ℕ, ◌+◌, ◌^◌, ◌≤◌, false, cond, ◌⊎◌, ◌≡◌, length, take}
+use Rattle.std.specs.Prelude.{ℕ, ◌+◌, ◌^◌, ◌≤◌, false, cond, ◌⊎◌, ◌≡◌, length, take, Option, Some, None}
 use mathlib.Core.List.{List, [], ◌∷◌, ◌++◌, flat_map}
-use Rattle.std.proofs.Math.Option.{Option, some, none}
 use Rattle.book.specs.Answers.{Buffers, accepts}
 use Rattle.book.specs.Calls.{call_of, act}
 use Rattle.book.specs.Kernels.{bad_length}
@@ -37,10 +36,10 @@ Numbered own k (r ∷ rs) = (r.session ≡ own) × (r.number ≡ k) × Numbered 
 
 -- what records give, applied once each in order: nothing where one is refused
 abbrev pub give : ℕ → Buffers → List Record → Option Buffers
-give n b [] = some b
+give n b [] = Some b
 give n b (r ∷ rs) =
     let o = act n r.gate b in
-    cond (accepts o.says) (give n o.left rs) none
+    cond (accepts o.says) (give n o.left rs) None
 
 -- the value of the last of them, and `v` where there are none
 abbrev pub last_value : ℕ → Buffers → Option ℕ → List Record → Option ℕ
@@ -51,7 +50,7 @@ last_value n b v (r ∷ rs) = last_value n (act n r.gate b).left (call_of n r.ga
 
 -- unreadable bytes, one of the records, or a record of another session
 abbrev pub OneOf : ℕ → List Record → List ℕ → Type 0
-OneOf own rs bytes = (read_record bytes ≡ none) ⊎ ((r : Record) × (In r rs ⊎ (r.session ≡ own → ⊥)) × (read_record bytes ≡ some r))
+OneOf own rs bytes = (read_record bytes ≡ None) ⊎ ((r : Record) × (In r rs ⊎ (r.session ≡ own → ⊥)) × (read_record bytes ≡ Some r))
 
 abbrev pub AllOf : ℕ → List Record → List (List ℕ) → Type 0
 AllOf own rs [] = Unit
@@ -59,8 +58,8 @@ AllOf own rs (bytes ∷ more) = OneOf own rs bytes × AllOf own rs more
 
 -- the records among the deliveries
 abbrev pub cons : Option Record → List Record → List Record
-cons (some r) rs = r ∷ rs
-cons none rs = rs
+cons (Some r) rs = r ∷ rs
+cons None rs = rs
 
 abbrev pub seen : List (List ℕ) → List Record
 seen [] = []
@@ -71,20 +70,20 @@ seen (bytes ∷ more) = cons (read_record bytes) (seen more)
 -- A fresh session, buffers of its length, and up to 65,535 records made for it, numbered from 0, which applied once each in order are all accepted.
 pub record Given (n own : ℕ) (b : Buffers) (rs : List Record) : Type 0 where
   pub session : Session
-  pub fresh : start n own ≡ some session
+  pub fresh : start n own ≡ Some session
   pub fits : bad_length (2 ^ n) b ≡ false
   pub few : length rs ≤ 65535
   pub made : Numbered own 0 rs
   pub last : Buffers
-  pub accepted : give n b rs ≡ some last
+  pub accepted : give n b rs ≡ Some last
 
 -- After a delivery: the session's count k is the length of the longest start of the list found in order among the records delivered so far,
 -- the buffers are what the first k records give, once each, the value that is kept is that of the last of these, none at k = 0, and the mark is the one
 -- worked out afresh over their bytes.
 pub record Once (n : ℕ) (b : Buffers) (rs so_far : List Record) (s : Session) (left : Buffers) : Type 0 where
   pub longest : Longest s.count rs so_far
-  pub state : give n b (take s.count rs) ≡ some left
-  pub value : s.value ≡ last_value n b none (take s.count rs)
+  pub state : give n b (take s.count rs) ≡ Some left
+  pub value : s.value ≡ last_value n b None (take s.count rs)
   pub mark : s.mark ≡ marked 0 (flat_map write_record (take s.count rs))
 
 -- Whatever was delivered before, `ds`, and whatever comes now, `bytes`.

@@ -1,8 +1,7 @@
 -- The twelve examples of 01, "Proved examples", and those that requests of 02 add: lists, and one statement over a list; proofs/Examples.antt proves it.
 -- Definitions only. Assumes nothing.
 -- An f64 is shown by its bits.
-use Rattle.std.specs.Prelude.{ℕ, ◌^◌, List, [], ◌∷◌, ◌++◌, map, ◌≡◌, Float, pos, take, replicate}
-use Rattle.std.proofs.Math.Option.{some, none}
+use Rattle.std.specs.Prelude.{ℕ, ◌^◌, List, [], ◌∷◌, ◌++◌, map, ◌≡◌, Float, pos, take, replicate, Some, None}
 use Rattle.std.specs.Float.{binary64}
 use Rattle.std.specs.Float.Ieee.{of_int, of_bits, to_bits, neg}
 use Rattle.numbers.specs.Fused.{root}
@@ -68,8 +67,8 @@ counts s b (bytes ∷ more) =
 
 -- the values that AGAIN tells, one delivery after the other
 abbrev pub told_by : Replied → List ℕ
-told_by (again (some v)) = v ∷ []
-told_by (again none) = []
+told_by (again (Some v)) = v ∷ []
+told_by (again None) = []
 told_by (said x) = []
 
 abbrev pub told_values : Session → Buffers → List (List ℕ) → List ℕ

@@ -1,6 +1,5 @@
 -- Gates on pairs, SWAP and bit flip over two lent buffers: their tests, 1 to 6 in order, and what they leave. Definitions only. Assumes nothing.
-use Rattle.std.specs.Prelude.{ℕ, ◌+◌, ◌-◌, ◌*◌, ◌^◌, Bool, not, cond, ◌||◌, List, [], ◌∷◌, ◌++◌, eqb, leb, ltb, length}
-use Rattle.std.proofs.Math.Option.{some, none}
+use Rattle.std.specs.Prelude.{ℕ, ◌+◌, ◌-◌, ◌*◌, ◌^◌, Bool, not, cond, ◌||◌, List, [], ◌∷◌, ◌++◌, eqb, leb, ltb, length, Some, None}
 use Rattle.std.specs.Int.Count.{ones}
 use Rattle.std.specs.Float.Ieee as Ieee
 use Rattle.book.specs.Answers.{Test, ◌⇒◌, Buffers, Call, call}
@@ -50,7 +49,7 @@ seat_tests most n target controls =
 
 -- the rule put to the chosen pairs, for a gate that takes so many controls and has these tests of its own
 abbrev pub pair_call : (Pair → Pair) → ℕ → List Test → ℕ → ℕ → Controls → Buffers → Call
-pair_call rule most own n target controls b = call (seat_tests most n target controls ++ own) none (on_pairs rule n target controls b)
+pair_call rule most own n target controls b = call (seat_tests most n target controls ++ own) None (on_pairs rule n target controls b)
 
 -- ---- SWAP
 
@@ -64,11 +63,11 @@ unfolding held
 swapped n t0 t1 b = held (2 ^ n) (λ i. at b (exchanged t0 t1 i))
 
 abbrev pub swap_call : ℕ → ℕ → ℕ → Buffers → Call
-swap_call n t0 t1 b = call ((leb n t0 || leb n t1) ⇒ 3 ∷ []) none (swapped n t0 t1 b)
+swap_call n t0 t1 b = call ((leb n t0 || leb n t1) ⇒ 3 ∷ []) None (swapped n t0 t1 b)
 
 -- ---- bit flip: X without controls if draw <= prob, else nothing; the answer is 1 if X ran, 0 if not
 
 abbrev pub bit_flip_call : ℕ → ℕ → Noise → Buffers → Call
 bit_flip_call n target noise b =
     let ran = Ieee.le noise.draw noise.prob in
-    call (leb n target ⇒ 3 ∷ finite_tests (noise_of noise)) (some (cond ran 1 0)) (cond ran (on_pairs x_rule n target uncontrolled b) b)
+    call (leb n target ⇒ 3 ∷ finite_tests (noise_of noise)) (Some (cond ran 1 0)) (cond ran (on_pairs x_rule n target uncontrolled b) b)

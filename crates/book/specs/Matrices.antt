@@ -1,6 +1,5 @@
 -- Dense matrices of side 2 ^ n, n from 1 to 6, real and imaginary parts in two buffers, row by row. Definitions only. Assumes nothing.
-use Rattle.std.specs.Prelude.{ℕ, zero, suc, ◌+◌, ◌-◌, ◌*◌, ◌/◌, ◌%◌, ◌^◌, cond, ◌||◌, List, [], ◌∷◌, ◌++◌, eqb, leb, Float}
-use Rattle.std.proofs.Math.Option.{none}
+use Rattle.std.specs.Prelude.{ℕ, zero, suc, ◌+◌, ◌-◌, ◌*◌, ◌/◌, ◌%◌, ◌^◌, cond, ◌||◌, List, [], ◌∷◌, ◌++◌, eqb, leb, Float, None}
 use Rattle.book.specs.Answers.{Test, ◌⇒◌, Buffers, Outcome, call, outcome_of}
 use Rattle.book.specs.Gates.{◌⊕◌, ◌⊖◌, ◌⊗◌, −◌, nought, entry, finite_tests}
 use Rattle.book.specs.Kernels.{bad_size, bad_length}
@@ -53,7 +52,7 @@ matrix_tests size n b = bad_size most_matrix n ⇒ 1 ∷ bad_length size b ⇒ 2
 abbrev pub gate_matrix : Matrix → ℕ → ℕ → Buffers → Outcome
 gate_matrix m n target out =
     outcome_of (matrix_tests (entries n) n out) out
-    (call (leb n target ⇒ 3 ∷ finite_tests (numbers_of m)) none (held_dense n (crossing m target)))
+    (call (leb n target ⇒ 3 ∷ finite_tests (numbers_of m)) None (held_dense n (crossing m target)))
 
 -- ---- conjugate transpose in place: every imaginary part negated, then transposed
 
@@ -63,7 +62,7 @@ conjugate z = amplitude z.re (− z.im)
 abbrev pub conjugate_transpose : ℕ → Buffers → Outcome
 conjugate_transpose n b =
     outcome_of (matrix_tests (entries n) n b) b
-    (call [] none (held_dense n (λ row column. conjugate (dense n b column row))))
+    (call [] None (held_dense n (λ row column. conjugate (dense n b column row))))
 
 -- ---- products: sums start at 0.0 and run by rising inner index
 
@@ -83,14 +82,14 @@ unfoldable pub product_tests : ℕ → ℕ → Buffers → Buffers → Buffers �
 product_tests size n a b out =
     bad_size most_matrix n ⇒ 1 ∷ (bad_length (entries n) a || bad_length size b || bad_length size out) ⇒ 2 ∷ []
 
--- A-as-B, with A given first
+-- A·B, with A given first
 abbrev pub product : ℕ → Buffers → Buffers → Buffers → Outcome
 product n a b out =
     outcome_of (product_tests (entries n) n a b out) out
-    (call [] none (held_dense n (λ row column. dot (dense n a row) (λ inner. dense n b inner column) (2 ^ n))))
+    (call [] None (held_dense n (λ row column. dot (dense n a row) (λ inner. dense n b inner column) (2 ^ n))))
 
 -- A and a state
 abbrev pub product_state : ℕ → Buffers → Buffers → Buffers → Outcome
 product_state n a state out =
     outcome_of (product_tests (2 ^ n) n a state out) out
-    (call [] none (held (2 ^ n) (λ row. dot (dense n a row) (at state) (2 ^ n))))
+    (call [] None (held (2 ^ n) (λ row. dot (dense n a row) (at state) (2 ^ n))))

@@ -1,6 +1,5 @@
 -- Forced measurement: the probabilities, tests 1, 2, 3, 6 and 7, and what it leaves. Definitions only. Assumes nothing.
-use Rattle.std.specs.Prelude.{ℕ, zero, suc, ◌^◌, Bool, not, cond, ◌&&◌, ◌||◌, [], ◌∷◌, eqb, leb, Float}
-use Rattle.std.proofs.Math.Option.{some}
+use Rattle.std.specs.Prelude.{ℕ, zero, suc, ◌^◌, Bool, not, cond, ◌&&◌, ◌||◌, [], ◌∷◌, eqb, leb, Float, Some}
 use Rattle.std.specs.Float.Ieee as Ieee
 use Rattle.std.specs.Float.{binary64}
 use Rattle.std.specs.Float.Ieee.Scale.{finite}
@@ -50,5 +49,5 @@ measure_call n target forced b =
     let after = measured n target forced.outcome b in
     call
     (leb n target ⇒ 3 ∷ bad_forced forced ⇒ 6 ∷ bad_chance (probability n target forced.outcome (at b)) ⇒ 7 ∷ [])
-    (some forced.outcome)
+    (Some forced.outcome)
     (cond (eqb forced.outcome 1 && eqb forced.reset 1) (on_pairs x_rule n target uncontrolled after) after)

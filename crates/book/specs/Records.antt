@@ -1,10 +1,9 @@
 -- Gate records: the bytes that a record is written as, and the record that bytes are read as. Definitions only. Assumes nothing.
 -- Big-endian, an f64 as its bits; a NaN's are 7FF8000000000000.
-use Rattle.std.specs.Prelude.{ℕ, zero, suc, ◌+◌, ◌*◌, ◌/◌, ◌%◌, ◌^◌, Bool, cond, ◌&&◌, List, [], ◌∷◌, ◌++◌, leb, ltb, eqb, Float, length, take, drop, get_or}
-use Rattle.std.proofs.Math.Option.{Option, some, none}
+use Rattle.std.specs.Prelude.{ℕ, zero, suc, ◌+◌, ◌*◌, ◌/◌, ◌%◌, ◌^◌, Bool, cond, ◌&&◌, List, [], ◌∷◌, ◌++◌, leb, ltb, eqb, Float, length, take, drop, get_or, Option, Some, None}
 use Rattle.std.specs.Float.{binary64}
 use Rattle.std.specs.Float.Ieee.{of_bits, to_bits}
-use Rattle.book.specs.Answers.{number_of, Gives, gives, denied}
+use Rattle.book.specs.Answers.{Gives, gives, denied}
 use Rattle.book.specs.Gates.{angle_of, angles_of, noise_of}
 use Rattle.book.specs.State.{controlled}
 use Rattle.book.specs.declared.Angle.{Angle}
@@ -15,13 +14,9 @@ use Rattle.book.specs.declared.Gate.{Gate}
 use Rattle.book.specs.declared.Gate.TheVariants.{H, X, Y, Z, P, Rx, Ry, Rz, U, Swap, Measure, BitFlip}
 use Rattle.book.specs.declared.Noise.{Noise}
 use Rattle.book.specs.declared.Parts.{Parts}
-use Rattle.book.specs.declared.Read.{Read}
-use Rattle.book.specs.declared.Read.TheVariants.{Record as Found, Refused as Unread}
 use Rattle.book.specs.declared.Record.{Record}
 use Rattle.book.specs.declared.Shape.{Shape}
 use Rattle.book.specs.declared.Shape.TheVariants.{Plain, Angled, Eight, Second, Forced, Noisy}
-use Rattle.book.specs.declared.Written.{Written}
-use Rattle.book.specs.declared.Written.TheVariants.{Bytes, Refused as Unwritten}
 
 -- ---- numbers as bytes
 
@@ -111,10 +106,6 @@ abbrev pub most_bytes : ℕ
 most_bytes = 94
 
 -- The writer answers how many bytes the record has and touches only those; refusal 12 if the buffer is shorter.
-abbrev pub written_says : Written → Gives ℕ
-written_says (Bytes k) = gives k
-written_says (Unwritten x) = denied (number_of x)
-
 abbrev pub wrote_of : Record → List ℕ → Gives ℕ
 wrote_of r out = cond (ltb (length out) (length (write_record r))) (denied 12) (gives (length (write_record r)))
 
@@ -129,12 +120,12 @@ starts tag len bs = eqb (get_or bs 0 0) tag && (eqb (number (take 2 (drop 1 bs))
 
 -- The field that is listed here: the reading goes on with its contents and what follows. A field that is not there as listed ends it.
 unfoldable pub listed : {A : Type 0} → ℕ → ℕ → List ℕ → (List ℕ → List ℕ → Option A) → Option A
-listed tag len bs go = cond (starts tag len bs) (go (take len (drop 3 bs)) (drop (3 + len) bs)) none
+listed tag len bs go = cond (starts tag len bs) (go (take len (drop 3 bs)) (drop (3 + len) bs)) None
 
 -- nothing after
 abbrev pub last : {A : Type 0} → List ℕ → A → Option A
-last [] a = some a
-last (b ∷ bs) a = none
+last [] a = Some a
+last (b ∷ bs) a = None
 
 -- the f64 whose bits stand at place i of the contents, counted in floats
 abbrev pub float : List ℕ → ℕ → Float
@@ -164,11 +155,11 @@ read_row (eight g) t bs = mask_then bs λ c rest. listed 0x08 64 rest λ a rest'
 read_row (second g) t bs = listed 0x06 1 bs λ u rest. last rest (g t (number u))
 read_row (forced g) t bs = listed 0x09 2 bs λ f rest. last rest (g t (read_forced f))
 read_row (noisy g) t bs = listed 0x0A 16 bs λ a rest. last rest (g t (read_noise a))
-read_row unlisted t bs = none
+read_row unlisted t bs = None
 
 abbrev pub record_with : ℕ → ℕ → Option Gate → Option Record
-record_with s k (some g) = some (record { session = s; number = k; gate = g })
-record_with s k none = none
+record_with s k (Some g) = Some (record { session = s; number = k; gate = g })
+record_with s k None = None
 
 abbrev pub read_record : List ℕ → Option Record
 read_record bs =
@@ -177,8 +168,3 @@ read_record bs =
     listed 0x03 1 bs₂ λ code bs₃.
     listed 0x04 1 bs₃ λ target bs₄.
     record_with (number session) (number k) (read_row (row_of (number code)) (number target) bs₄)
-
--- what the reader answers: the record, or refusal 8
-abbrev pub read_says : Read → Gives Record
-read_says (Found r) = gives r
-read_says (Unread x) = denied (number_of x)

@@ -1,6 +1,5 @@
 -- Starting a session, a delivery, and a run of deliveries. Definitions only. Assumes nothing.
-use Rattle.std.specs.Prelude.{ℕ, zero, suc, ◌+◌, ◌*◌, ◌/◌, ◌%◌, ◌^◌, cond, not, List, [], ◌∷◌, ltb, eqb}
-use Rattle.std.proofs.Math.Option.{Option, some, none}
+use Rattle.std.specs.Prelude.{ℕ, zero, suc, ◌+◌, ◌*◌, ◌/◌, ◌%◌, ◌^◌, cond, not, List, [], ◌∷◌, ltb, eqb, Option, Some, None}
 use Rattle.book.specs.Answers.{refused, Replied, again, said, first, Buffers, Outcome, outcome_of, accepts}
 use Rattle.book.specs.Calls.{call_of}
 use Rattle.book.specs.Kernels.{bad_size, most_qubits, size_tests}
@@ -17,10 +16,10 @@ pub record Session : Type 0 where
 
 -- it starts at 0, with none, and with mark 0; a bad n is refusal 1, and gives no session
 abbrev pub fresh : ℕ → ℕ → Session
-fresh n own = record { n = n; number = own; count = 0; value = none; mark = 0 }
+fresh n own = record { n = n; number = own; count = 0; value = None; mark = 0 }
 
 abbrev pub start : ℕ → ℕ → Option Session
-start n own = cond (bad_size most_qubits n) none (some (fresh n own))
+start n own = cond (bad_size most_qubits n) None (Some (fresh n own))
 
 -- for each byte the mark is turned left by 5 and the byte is added, dropping any carry out of 32 bits
 unfoldable pub marked : ℕ → List ℕ → ℕ
@@ -51,26 +50,26 @@ counted s b r v o =
 
 -- AGAIN for number count-1, the last record taken, tells the value that is kept; for an older number none
 abbrev pub told_again : ℕ → Option ℕ → ℕ → Option ℕ
-told_again count v number = cond (eqb (number + 1) count) v none
+told_again count v number = cond (eqb (number + 1) count) v None
 
 -- 9, 11; then a number below the count answers AGAIN, one above it 10, and only an equal one goes on
 abbrev pub standing : Session → Record → Option Replied
 standing s r =
-    cond (not (eqb r.session s.number)) (some (said (refused 9)))
-    (cond (eqb r.number 65535) (some (said (refused 11)))
-    (cond (ltb r.number s.count) (some (again (told_again s.count s.value r.number)))
-    (cond (ltb s.count r.number) (some (said (refused 10))) none)))
+    cond (not (eqb r.session s.number)) (Some (said (refused 9)))
+    (cond (eqb r.number 65535) (Some (said (refused 11)))
+    (cond (ltb r.number s.count) (Some (again (told_again s.count s.value r.number)))
+    (cond (ltb s.count r.number) (Some (said (refused 10))) None)))
 
 -- to the gate's own tests, 3 to 7
 abbrev pub take_record : Session → Buffers → Record → Option Replied → Delivery
-take_record s b r (some x) = kept s b x
-take_record s b r none = let c = call_of s.n r.gate b in counted s b r c.answer (outcome_of [] b c)
+take_record s b r (Some x) = kept s b x
+take_record s b r None = let c = call_of s.n r.gate b in counted s b r c.answer (outcome_of [] b c)
 
 -- 1, 2; then 8
 abbrev pub take_read : Session → Buffers → ℕ → Option Record → Delivery
 take_read s b (suc k) o = kept s b (said (refused (suc k)))
-take_read s b zero none = kept s b (said (refused 8))
-take_read s b zero (some r) = take_record s b r (standing s r)
+take_read s b zero None = kept s b (said (refused 8))
+take_read s b zero (Some r) = take_record s b r (standing s r)
 
 unfoldable pub deliver : Session → Buffers → List ℕ → Delivery
 deliver s b bytes = take_read s b (first (size_tests s.n b)) (read_record bytes)

@@ -143,38 +143,12 @@ pub enum Refusal {
     Room,
 }
 
-// What a kernel, a measurement or a matrix call answers.
-#[derive(Clone, Copy)]
-pub enum Answer {
-    Taken,
-    Value(u8),
-    Refused(Refusal),
-}
-
-// A value of a flip or a measurement, or none.
-#[derive(Clone, Copy)]
-pub enum ValueOrNone {
-    None,
-    Value(u8),
-}
+// What a kernel, a measurement or a matrix call answers: a value or none, or a refusal.
+pub type Answer = Result<Option<u8>, Refusal>;
 
 // What a delivery answers: AGAIN, which tells a value or none, or what a call answers.
 #[derive(Clone, Copy)]
 pub enum Reply {
-    Again(ValueOrNone),
+    Again(Option<u8>),
     Said(Answer),
-}
-
-// Bytes are read as a record, or not.
-#[derive(Clone, Copy)]
-pub enum Read {
-    Record(Record),
-    Refused(Refusal),
-}
-
-// The writer answers how many bytes it wrote, or refusal 12.
-#[derive(Clone, Copy)]
-pub enum Written {
-    Bytes(usize),
-    Refused(Refusal),
 }

@@ -1,7 +1,7 @@
 -- The caller's words behind a delivery and behind a piece are the book's session. Two results that the contracts allow are the same. Assumes nothing.
 use Prim.Native.Nat.{ℕ}
 use mathlib.Core.List.{List}
-use mathlib.Core.Option.{Option, some, none}
+use Rattle.std.specs.Prelude.{Option, Some, None}
 use mathlib.Core.Path.{◌≡◌, sym, ap, ap₂, ◌∙◌, subst}
 use Rattle.answers.specs.Told.{replied_number}
 use Rattle.book.proofs.ExactlyOnce.{Own, same_own, keeps_its_own}
@@ -41,8 +41,8 @@ tells {w} {w'} {bytes} {b} {b'} {a} x k e =
 
 -- what is due is no delivery or one
 due_own : (x : Bench) (o : Option (List ℕ)) → Own x.session (deliver_all x (list_of o)).session
-due_own x none = same_own x.session
-due_own x (some bytes) = keeps_its_own x.session x.state bytes
+due_own x None = same_own x.session
+due_own x (Some bytes) = keeps_its_own x.session x.state bytes
 
 -- a piece
 pub tells_fed : {w w' held held' piece : List ℕ} {kept kept' used code : ℕ} {b b' : Buffers} {s : Book.Session} {told : List Answered}

@@ -1,6 +1,5 @@
 -- The contracts of the calls that tell an answer as one number. Definitions only. Assumes nothing.
-use Rattle.std.specs.Prelude.{ℕ, cond, List, [], ◌∷◌, ◌≡◌, eqb, Float}
-use Rattle.std.proofs.Math.Option.{Option, some, none}
+use Rattle.std.specs.Prelude.{ℕ, cond, List, [], ◌∷◌, ◌≡◌, eqb, Float, Option, Some, None}
 use Rattle.answers.specs.Told.{said_number, replied_number}
 use Rattle.book.specs.Answers.{Buffers, Outcome, says, Does}
 use Rattle.book.specs.Sessions as Book
@@ -15,8 +14,8 @@ use Rattle.once.specs.Answered.{Answered}
 
 -- a session that starts, or refusal 1
 abbrev pub start_of : Option Book.Session → ℕ
-start_of (some s) = 0
-start_of none = 1
+start_of (Some s) = 0
+start_of None = 1
 
 -- The whole contract of a start: the number returned, and every word: all eight are written, or none.
 pub record TellsStart (n own : ℕ) (w : List ℕ) (code : ℕ) (w' : List ℕ) : Type 0 where

@@ -1,7 +1,6 @@
 -- What an answer makes of the count, of the value that is kept and of the mark, and what is told of it: the contracts of this crate. Definitions only.
 -- Assumes nothing.
-use Rattle.std.specs.Prelude.{ℕ, cond, List, ◌≡◌}
-use Rattle.std.proofs.Math.Option.{Option, some, none}
+use Rattle.std.specs.Prelude.{ℕ, cond, List, ◌≡◌, Option, Some, None}
 use Rattle.book.specs.Answers.{Said, taken, value, refused, says, value_or_none, Replied, said, replies, accepts}
 use Rattle.book.specs.Sessions.{marked}
 use Rattle.book.specs.declared.Answer.{Answer}
@@ -11,8 +10,8 @@ use Rattle.counting.specs.declared.Counted.{Counted}
 
 -- what is kept after a gate was run, where `v` was kept before it: its value, or none; of one that was refused, v
 abbrev pub kept_by : Said → Option ℕ → Option ℕ
-kept_by taken v = none
-kept_by (value w) v = some w
+kept_by taken v = None
+kept_by (value w) v = Some w
 kept_by (refused k) v = v
 
 -- A record that was run, of these bytes: what its gate answers is said; a gate that was taken makes the count `next`, its value is kept, and the bytes move

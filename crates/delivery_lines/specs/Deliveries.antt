@@ -1,6 +1,5 @@
 -- What the program prints of a delivery, as its bytes. Definitions only. Assumes nothing.
-use Rattle.std.specs.Prelude.{ℕ, List, [], ◌++◌}
-use Rattle.std.proofs.Math.Option.{Option, some, none}
+use Rattle.std.specs.Prelude.{ℕ, List, [], ◌++◌, Option, Some, None}
 use Rattle.book.specs.Answers.{Said, taken, value, refused, Replied, again, said}
 use Rattle.words.specs.Text.{text}
 use Rattle.words.specs.Words.{decimal}
@@ -16,9 +15,9 @@ saying (said x) = answering x
 
 -- a taken measurement or flip has a value, and so has an AGAIN that tells one
 abbrev pub value_of : Said → Option ℕ
-value_of taken = none
-value_of (value v) = some v
-value_of (refused k) = none
+value_of taken = None
+value_of (value v) = Some v
+value_of (refused k) = None
 
 abbrev pub value_told : Replied → Option ℕ
 value_told (again v) = v
@@ -26,8 +25,8 @@ value_told (said x) = value_of x
 
 -- it stands behind the count
 abbrev pub adding : Option ℕ → List ℕ
-adding none = []
-adding (some v) = text " VALUE " ++ decimal v
+adding None = []
+adding (Some v) = text " VALUE " ++ decimal v
 
 abbrev pub delivery_line : ℕ → Replied → ℕ → List ℕ
 delivery_line i reply count =

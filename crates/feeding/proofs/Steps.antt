@@ -3,7 +3,7 @@ use Prim.Native.Nat.{ℕ, ◌+◌, ◌-◌, ◌≤◌, ◌<◌}
 use native.Mathlib.Omega.{arith}
 use mathlib.Core.Bool.{Bool, true, false, cond}
 use mathlib.Core.List.{List, [], ◌∷◌, ◌++◌}
-use mathlib.Core.Option.{Option, some, none}
+use Rattle.std.specs.Prelude.{Option, Some, None}
 use mathlib.Core.Path.{◌≡◌, refl, sym, ap, ◌∙◌}
 use lib.Dec.{ltb}
 use lib.ListN.{length, take, drop, length-append, length-drop, drop_of_length-le}
@@ -58,10 +58,10 @@ comes r bs = by r refl
     by stopped is = stops
 
 -- behind a frame nothing is kept
-nothing_kept : (r : Rest) (bs : List ℕ) {contents : List ℕ} → some contents ≡ (step r bs).due → (step r bs).rest ≡ begun []
+nothing_kept : (r : Rest) (bs : List ℕ) {contents : List ℕ} → Some contents ≡ (step r bs).due → (step r bs).rest ≡ begun []
 nothing_kept r bs {contents} = by (comes r bs)
   where
-    by : {s : Step} → Comes r bs s → some contents ≡ s.due → s.rest ≡ begun []
+    by : {s : Step} → Comes r bs s → Some contents ≡ s.due → s.rest ≡ begun []
     by (done k c) e = refl
     by (holds h is more) e = absurd (clash (cc))
     by (passes k) e = absurd (clash (cc))
@@ -94,10 +94,10 @@ module _ (held : List ℕ) (kept : ℕ) (piece : List ℕ) (size : length held �
     pub fits : kept + length piece ≤ length held
     pub is : store held kept piece ≡ held_of held r
 
-  pub holds_on : none ≡ after.due → kept_of after.rest < most_held → Holds after.rest
+  pub holds_on : None ≡ after.due → kept_of after.rest < most_held → Holds after.rest
   holds_on = by (comes (rest_of held kept) piece)
     where
-      by : {s : Step} → Comes (rest_of held kept) piece s → none ≡ s.due → kept_of s.rest < most_held → Holds s.rest
+      by : {s : Step} → Comes (rest_of held kept) piece s → None ≡ s.due → kept_of s.rest < most_held → Holds s.rest
       by (done k c) e few = absurd (clash (cc))
       by (holds h is more) e few =
           let (first, many) = held_first is in
@@ -107,10 +107,10 @@ module _ (held : List ℕ) (kept : ℕ) (piece : List ℕ) (size : length held �
       by stops e few = absurd (omega arith)
 
 pub stays : (held : List ℕ) (kept : ℕ) (piece : List ℕ) → let after = step (rest_of held kept) piece in
-    none ≡ after.due → most_held ≤ kept_of after.rest → held ≡ held_of held after.rest
+    None ≡ after.due → most_held ≤ kept_of after.rest → held ≡ held_of held after.rest
 stays held kept piece = by (comes (rest_of held kept) piece)
   where
-    by : {s : Step} → Comes (rest_of held kept) piece s → none ≡ s.due → most_held ≤ kept_of s.rest → held ≡ held_of held s.rest
+    by : {s : Step} → Comes (rest_of held kept) piece s → None ≡ s.due → most_held ≤ kept_of s.rest → held ≡ held_of held s.rest
     by (done k c) e many = absurd (clash (cc))
     by (holds h is more) e many = absurd (omega (arith, Nexts.tells (h ++ piece) more))
     by (passes k) e many = refl
@@ -118,7 +118,7 @@ stays held kept piece = by (comes (rest_of held kept) piece)
 
 pub nothing_due : (s : Book.Session) (b : Buffers) (held : List ℕ) (kept : ℕ) (piece : List ℕ) {used next : ℕ} {held' : List ℕ}
     → let after = step (rest_of held kept) piece in
-    used ≡ after.used → next ≡ kept_of after.rest → none ≡ after.due → held' ≡ held_of held after.rest
+    used ≡ after.used → next ≡ kept_of after.rest → None ≡ after.due → held' ≡ held_of held after.rest
     → Takes (form s kept held) b piece used [] (form s next held') b
 nothing_due s b held kept piece u k d h =
     record {
@@ -133,7 +133,7 @@ nothing_due s b held kept piece u k d h =
 
 -- its contents, delivered
 pub made : {s : Book.Session} {b b' : Buffers} (held : List ℕ) (kept : ℕ) (piece : List ℕ) {contents : List ℕ} {used : ℕ} {r : Stepped}
-    → some contents ≡ (step (rest_of held kept) piece).due → used ≡ (step (rest_of held kept) piece).used → Makes s b contents used r b'
+    → Some contents ≡ (step (rest_of held kept) piece).due → used ≡ (step (rest_of held kept) piece).used → Makes s b contents used r b'
     → Takes (form s kept held) b piece r.used (told_of r.told r.session.count) (form (meant r.session) r.kept held) b'
 made {s} {b} held kept piece d u m =
     let rest = nothing_kept (rest_of held kept) piece d in
@@ -178,10 +178,10 @@ contents_of : (bs : List ℕ) (len : ℕ) → 3 ≤ length bs → drop 3 (take (
 contents_of bs len h = ap (drop 3) (take-add 3 len bs) ∙ drop_at (take 3 bs) (take len (drop 3 bs)) 3 (length-take-le 3 bs h)
 
 -- of an over-long frame there are none
-past_none : (k : ℕ) (bs : List ℕ) {contents : List ℕ} → some contents ≡ (past k bs).due → contents ≡ []
+past_none : (k : ℕ) (bs : List ℕ) {contents : List ℕ} → Some contents ≡ (past k bs).due → contents ≡ []
 past_none k bs {contents} = by (ltb (length bs) k)
   where
-    by : (few : Bool) → some contents ≡ (cond few (waiting bs (passing (k - length bs))) (complete k [])).due → contents ≡ []
+    by : (few : Bool) → Some contents ≡ (cond few (waiting bs (passing (k - length bs))) (complete k [])).due → contents ≡ []
     by true e = absurd (clash (cc))
     by false e = cc
 
@@ -201,12 +201,12 @@ module _ (held : List ℕ) (kept : ℕ) (piece : List ℕ) (size : length held �
       record { first_is = first; last_is = last; joins = record { least = omega arith; most = omega arith }; contents_are = is }
 
   pub in_two : next_of (bytes_of (rest_of held kept) ++ piece) ≡ Whole len
-      → some (take len (drop 3 (bytes_of (rest_of held kept) ++ piece))) ≡ (step (rest_of held kept) piece).due
+      → Some (take len (drop 3 (bytes_of (rest_of held kept) ++ piece))) ≡ (step (rest_of held kept) piece).due
       → used ≡ (step (rest_of held kept) piece).used → Parts held piece (3 + len - used) used (take len (drop 3 (bytes_of (rest_of held kept) ++ piece)))
   unfolding step
   in_two = by (stands held kept)
     where
-      by : {r : Rest} → Stands held kept r → next_of (bytes_of r ++ piece) ≡ Whole len → some (take len (drop 3 (bytes_of r ++ piece))) ≡ (step r piece).due
+      by : {r : Rest} → Stands held kept r → next_of (bytes_of r ++ piece) ≡ Whole len → Some (take len (drop 3 (bytes_of r ++ piece))) ≡ (step r piece).due
           → used ≡ (step r piece).used → Parts held piece (3 + len - used) used (take len (drop 3 (bytes_of r ++ piece)))
       by (part few more) is d u =
           let h = take kept held in
@@ -224,13 +224,13 @@ module _ (held : List ℕ) (kept : ℕ) (piece : List ℕ) (size : length held �
           ∙ contents_of bs len (omega (arith, told.there)))
       by (over k) is d u =
           let told = sized piece is in
-          let none = past_none (kept - most_held) piece d in
+          let None = past_none (kept - most_held) piece d in
           let there = length-drop 3 piece in
-          let short : len ≡ 0 = omega (arith, ap length none, length-take-le len (drop 3 piece) (omega (arith, told.there))) in
+          let short : len ≡ 0 = omega (arith, ap length None, length-take-le len (drop 3 piece) (omega (arith, told.there))) in
           let most : 3 + len ≤ most_held = told.most in
           let within : used ≤ length piece = omega (arith, step_within (passing (kept - most_held)) piece) in
           let first = length-take-le (3 + len - used) held (omega arith) in
           let last = length-take-le used piece within in
           let all = length-append (take (3 + len - used) held) (take used piece) in
-          two most within (drop_of_length-le (take (3 + len - used) held ++ take used piece) {i = 3} (omega arith) ∙ sym none)
+          two most within (drop_of_length-le (take (3 + len - used) held ++ take used piece) {i = 3} (omega arith) ∙ sym None)
       by wrong is d u = absurd (clash (cc))

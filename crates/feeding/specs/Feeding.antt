@@ -1,6 +1,5 @@
 -- A form that takes bytes as they come, and what a piece does to it: the contracts of this crate. Definitions only. Assumes nothing.
-use Rattle.std.specs.Prelude.{ℕ, ◌+◌, ◌*◌, ◌≤◌, min, Bool, true, false, List, [], ◌∷◌, ◌++◌, map, ◌≡◌, length}
-use Rattle.std.proofs.Math.Option.{Option, some, none}
+use Rattle.std.specs.Prelude.{ℕ, ◌+◌, ◌*◌, ◌≤◌, min, Bool, true, false, List, [], ◌∷◌, ◌++◌, map, ◌≡◌, length, Option, Some, None}
 use Rattle.answers.specs.Told.{replied_number}
 use Rattle.book.specs.Answers.{replies, Buffers}
 use Rattle.book.specs.Sessions as Book
@@ -44,8 +43,8 @@ cuts stopped = true
 
 -- what is due is none or one delivery
 abbrev pub list_of : Option (List ℕ) → List (List ℕ)
-list_of none = []
-list_of (some bytes) = bytes ∷ []
+list_of None = []
+list_of (Some bytes) = bytes ∷ []
 
 -- what is told of it, with the count after it
 abbrev pub told_of : Told → ℕ → List Answered

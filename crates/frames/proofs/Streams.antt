@@ -5,7 +5,7 @@ use native.Mathlib.Nat.{sub-zero}
 use native.Mathlib.Omega.{arith}
 use mathlib.Core.Bool.{Bool, true, false}
 use mathlib.Core.List.{List, [], ◌∷◌, ◌++◌, append_assoc, append-nil}
-use mathlib.Core.Option.{some, none}
+use Rattle.std.specs.Prelude.{Some, None}
 use mathlib.Core.Path.{◌≡◌, refl, sym, ap, ap₂, ◌∙◌}
 use lib.Dec.{ltb}
 use lib.ListN.{length, take, drop, length-append, length-drop}
@@ -36,7 +36,7 @@ data Behind (r : Rest) (bs : List ℕ) : Type 0 where
       → ((ys : List ℕ) → step r (bs ++ ys) ≡ later (length bs) (step r' ys)) → Behind r bs
 
 waiting_on : (bs ys : List ℕ) (r : Rest) → waiting (bs ++ ys) r ≡ later (length bs) (waiting ys r)
-waiting_on bs ys r = ap (λ (k : ℕ). record { used = k; due = none; rest = r }) (length-append bs ys)
+waiting_on bs ys r = ap (λ (k : ℕ). record { used = k; due = None; rest = r }) (length-append bs ys)
 
 -- ---- bytes of an over-long frame
 
@@ -199,7 +199,7 @@ enough (suc f) (suc g) bs h l = by (behind (begun []) bs) (λ k l₁ l₂. enoug
         → stream_in (suc f) (begun []) bs ≡ stream_in (suc g) (begun []) bs
     by (done k contents e m pos on) rest =
         let used = pos none_begun in
-        rw e (ap (goes_on (some contents) (begun [])) (rest k (omega (arith, length-drop k bs)) (omega (arith, length-drop k bs))))
+        rw e (ap (goes_on (Some contents) (begun [])) (rest k (omega (arith, length-drop k bs)) (omega (arith, length-drop k bs))))
     by (waits r' e keeps on) rest = rw e
 
 -- a stream is its first step and the stream behind it
@@ -212,7 +212,7 @@ stream_steps r bs = by (behind r bs)
         ≡ goes_on (step r bs).due (step r bs).rest (stream_in (suc (length (drop (step r bs).used bs))) (step r bs).rest (drop (step r bs).used bs))
     by (done k contents e m pos on) =
         rw e
-        (ap (goes_on (some contents) (begun []))
+        (ap (goes_on (Some contents) (begun []))
         (enough (length bs) (suc (length (drop k bs))) (drop k bs) (omega (arith, length-drop k bs)) (omega arith)))
     by (waits r' e keeps on) = rw e
 
@@ -261,8 +261,8 @@ cut_step r xs ys rest = by (behind r xs)
     by : Behind r xs → stream_of r (xs ++ ys) ≡ stream_of r xs and_then ys
     by (done k contents e m pos on) =
         stepped r (xs ++ ys) (on ys)
-        ∙ ap (λ (l : List ℕ). goes_on (some contents) (begun []) (stream_of (begun []) l)) (drop-append-le k xs ys m)
-        ∙ ap (goes_on (some contents) (begun [])) (rest k pos m)
+        ∙ ap (λ (l : List ℕ). goes_on (Some contents) (begun []) (stream_of (begun []) l)) (drop-append-le k xs ys m)
+        ∙ ap (goes_on (Some contents) (begun [])) (rest k pos m)
         ∙ ap (λ (s : Stream). s and_then ys) (sym (stepped r xs e))
     by (waits r' e keeps on) =
         let s = step r' ys in

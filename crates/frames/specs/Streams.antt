@@ -1,6 +1,5 @@
 -- What a stream of bytes behind the header gives: its deliveries in order, and what is left at its end. Definitions only. Assumes nothing.
-use Rattle.std.specs.Prelude.{ℕ, zero, suc, ◌+◌, ◌-◌, cond, List, [], ◌∷◌, ◌++◌, ltb, length, take, drop}
-use Rattle.std.proofs.Math.Option.{Option, some, none}
+use Rattle.std.specs.Prelude.{ℕ, zero, suc, ◌+◌, ◌-◌, cond, List, [], ◌∷◌, ◌++◌, ltb, length, take, drop, Option, Some, None}
 use Rattle.frames.specs.Frames.{next_of}
 use Rattle.frames.specs.declared.Next.{Next}
 use Rattle.frames.specs.declared.Next.TheVariants.{Whole, Over, Wrong, More}
@@ -20,11 +19,11 @@ pub record Step : Type 0 where
 
 -- no frame is complete, and all bytes are used
 abbrev pub waiting : List ℕ → Rest → Step
-waiting bs r = record { used = length bs; due = none; rest = r }
+waiting bs r = record { used = length bs; due = None; rest = r }
 
 -- a frame is complete behind so many bytes
 abbrev pub complete : ℕ → List ℕ → Step
-complete k contents = record { used = k; due = some contents; rest = begun [] }
+complete k contents = record { used = k; due = Some contents; rest = begun [] }
 
 -- so many bytes of an over-long frame are to be read past. Nothing of it is delivered, and nothing is no record: refused with 8
 abbrev pub past : ℕ → List ℕ → Step
@@ -53,8 +52,8 @@ abbrev pub ends : Rest → Stream
 ends r = record { deliveries = []; rest = r }
 
 abbrev pub goes_on : Option (List ℕ) → Rest → Stream → Stream
-goes_on none r more = ends r
-goes_on (some contents) r more = record { deliveries = contents ∷ more.deliveries; rest = more.rest }
+goes_on None r more = ends r
+goes_on (Some contents) r more = record { deliveries = contents ∷ more.deliveries; rest = more.rest }
 
 -- in at most so many steps
 abbrev pub stream_in : ℕ → Rest → List ℕ → Stream

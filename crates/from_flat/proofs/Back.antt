@@ -1,7 +1,7 @@
 -- A record comes back from its numbers: by its gate, the numbers that have to fit do. Assumes nothing.
 use Prim.Native.Nat.{ℕ, ◌<◌, ◌^◌}
 use native.Mathlib.Omega.{arith}
-use mathlib.Core.Option.{some}
+use Rattle.std.specs.Prelude.{Some}
 use mathlib.Core.Path.{◌≡◌}
 use borrow.Author.Tests.{le-ltb}
 use Rattle.book.specs.Records.{parts_of}
@@ -13,7 +13,7 @@ use Rattle.records.specs.RoundTrips.{OwnFits}
 use Rattle.from_flat.specs.Records.{record_of, FlatBack}
 
 by_gate : (s k : ℕ) (g : Gate) → k < 2 ^ 16 → (parts_of g).target < 256 → OwnFits (parts_of g).shape
-    → (let r : Record = record { session = s; number = k; gate = g } in record_of (flat_fields r) (flat_numbers r) ≡ some r)
+    → (let r : Record = record { session = s; number = k; gate = g } in record_of (flat_fields r) (flat_numbers r) ≡ Some r)
 unfolding record_of too_few
 by_gate s k (H t c) n h o = rw (le-ltb 65535 k (omega arith), le-ltb 255 t (omega arith))
 by_gate s k (X t c) n h o = rw (le-ltb 65535 k (omega arith), le-ltb 255 t (omega arith))

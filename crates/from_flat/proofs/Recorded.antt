@@ -3,7 +3,7 @@ use Prim.Native.Nat.{ℕ, ◌≤◌, ◌<◌}
 use native.Mathlib.Omega.{arith}
 use mathlib.Core.Bool.{true, false}
 use mathlib.Core.List.{List}
-use mathlib.Core.Option.{Option, some, none}
+use Rattle.std.specs.Prelude.{Option, Some, None}
 use mathlib.Core.Path.{◌≡◌, refl, sym, ap, ◌∙◌}
 use lib.Ieee.{Float}
 use lib.ListN.{get_or}
@@ -42,13 +42,13 @@ module _ (fs : List ℕ) (xs : List Float) where
         judged = rw (e, le-ltb 65535 (get_or fs 1 0) fits, le-ltb 255 (get_or fs 3 0) byte)
 
         no_made : (o : Option Gate) → made_of o ≡ Missing → denied 8 ≡ or_denied 8 (record_with (get_or fs 0 0) (get_or fs 1 0) o)
-        no_made (some g) q = let z : ◌≡◌ {A = ℕ} 0 1 = cc in absurd (omega arith)
-        no_made none q = refl
+        no_made (Some g) q = let z : ◌≡◌ {A = ℕ} 0 1 = cc in absurd (omega arith)
+        no_made None q = refl
 
         a_made : (g : Gate) (o : Option Gate) → made_of o ≡ Whole g
             → gives (record { session = get_or fs 0 0; number = get_or fs 1 0; gate = g }) ≡ or_denied 8 (record_with (get_or fs 0 0) (get_or fs 1 0) o)
-        a_made g (some h) q = cc
-        a_made g none q = let z : ◌≡◌ {A = ℕ} 0 1 = cc in absurd (omega arith)
+        a_made g (Some h) q = cc
+        a_made g None q = let z : ◌≡◌ {A = ℕ} 0 1 = cc in absurd (omega arith)
 
         module _ {eight : Angles} (is : eight ≡ numbers_at xs) where
           read : {made : Made} → made_of (gate eight) ≡ made → made_of (gate (numbers_at xs)) ≡ made

@@ -1,6 +1,5 @@
 -- The record that six whole numbers and eight floats are. Definitions only. Assumes nothing.
-use Rattle.std.specs.Prelude.{ℕ, cond, ◌||◌, List, ◌≡◌, ltb, Float, get_or}
-use Rattle.std.proofs.Math.Option.{Option, some, none}
+use Rattle.std.specs.Prelude.{ℕ, cond, ◌||◌, List, ◌≡◌, ltb, Float, get_or, Option, Some, None}
 use Rattle.std.specs.Float.{nan}
 use Rattle.book.specs.Records.{Row, plain, angled, eight, second, forced, noisy, unlisted, row_of, record_with}
 use Rattle.book.specs.State.{controlled}
@@ -15,7 +14,7 @@ use Rattle.flat.specs.Numbers.{flat_fields, flat_numbers, too_few}
 
 -- a number that has to be a byte
 abbrev pub byte : {A : Type 0} → ℕ → Option A → Option A
-byte k follows = cond (ltb 255 k) none follows
+byte k follows = cond (ltb 255 k) None follows
 
 abbrev pub angle : Angles → Angle
 angle g = record { cosine = g.ct; sine = g.st }
@@ -25,20 +24,20 @@ noise g = record { prob = g.ct; draw = g.st }
 
 -- SWAP's second qubit, a measurement's outcome and its reset are bytes
 abbrev pub swap_of : ℕ → ℕ → Option Gate
-swap_of t other = byte other (some (Swap t other))
+swap_of t other = byte other (Some (Swap t other))
 
 abbrev pub measure_of : ℕ → ℕ → ℕ → Option Gate
-measure_of t outcome reset = byte outcome (byte reset (some (Measure t (record { outcome = outcome; reset = reset }))))
+measure_of t outcome reset = byte outcome (byte reset (Some (Measure t (record { outcome = outcome; reset = reset }))))
 
 -- the gate of a row of the book's table; what a gate does not have is not looked at
 abbrev pub gate_of : Row → ℕ → ℕ → ℕ → Angles → Option Gate
-gate_of (plain h) t mask reset g = some (h t (controlled mask))
-gate_of (angled h) t mask reset g = some (h t (controlled mask) (angle g))
-gate_of (eight h) t mask reset g = some (h t (controlled mask) g)
-gate_of (second h) t other reset g = byte other (some (h t other))
-gate_of (forced h) t outcome reset g = byte outcome (byte reset (some (h t (record { outcome = outcome; reset = reset }))))
-gate_of (noisy h) t other reset g = some (h t (noise g))
-gate_of unlisted t other reset g = none
+gate_of (plain h) t mask reset g = Some (h t (controlled mask))
+gate_of (angled h) t mask reset g = Some (h t (controlled mask) (angle g))
+gate_of (eight h) t mask reset g = Some (h t (controlled mask) g)
+gate_of (second h) t other reset g = byte other (Some (h t other))
+gate_of (forced h) t outcome reset g = byte outcome (byte reset (Some (h t (record { outcome = outcome; reset = reset }))))
+gate_of (noisy h) t other reset g = Some (h t (noise g))
+gate_of unlisted t other reset g = None
 
 abbrev pub numbers_at : List Float → Angles
 numbers_at xs =
@@ -49,9 +48,9 @@ numbers_at xs =
 unfoldable pub record_of : List ℕ → List Float → Option Record
 record_of fs xs =
     cond (too_few fs xs || ltb 65535 (get_or fs 1 0) || ltb 255 (get_or fs 3 0))
-    none
+    None
     (record_with (get_or fs 0 0) (get_or fs 1 0) (gate_of (row_of (get_or fs 2 0)) (get_or fs 3 0) (get_or fs 4 0) (get_or fs 5 0) (numbers_at xs)))
 
 -- a record comes back from its numbers
 abbrev pub FlatBack : Type 0
-FlatBack = (r : Record) → Held r → record_of (flat_fields r) (flat_numbers r) ≡ some r
+FlatBack = (r : Record) → Held r → record_of (flat_fields r) (flat_numbers r) ≡ Some r

@@ -1,6 +1,5 @@
 -- What is kept of a stream between two pieces, as a number and 97 bytes; and the contract of gathering. Definitions only. Assumes nothing.
-use Rattle.std.specs.Prelude.{ℕ, ◌+◌, ◌-◌, cond, List, [], ◌++◌, ◌≡◌, ltb, eqb, length, take, drop}
-use Rattle.std.proofs.Math.Option.{Option, some, none}
+use Rattle.std.specs.Prelude.{ℕ, ◌+◌, ◌-◌, cond, List, [], ◌++◌, ◌≡◌, ltb, eqb, length, take, drop, Option, Some, None}
 use Rattle.frames.specs.Frames.{next_of}
 use Rattle.frames.specs.Streams.{Rest, begun, passing, stopped, Step}
 use Rattle.frames.specs.declared.Next.{Next}
@@ -43,9 +42,9 @@ held_of held r = bytes_of r ++ drop (length (bytes_of r)) held
 
 -- what is due, of the bytes held and those that came: nothing of an over-long frame
 abbrev pub due_of : Due → List ℕ → Option (List ℕ)
-due_of Nothing bs = none
-due_of (Frame len) bs = some (take len (drop 3 bs))
-due_of TooLong bs = some []
+due_of Nothing bs = None
+due_of (Frame len) bs = Some (take len (drop 3 bs))
+due_of TooLong bs = Some []
 
 -- a frame that is due is all there
 abbrev pub IsWhole : Due → List ℕ → Type 0

@@ -2,8 +2,7 @@
 // and at most 97 bytes. Here it is found what a piece gives first; nothing is copied.
 #![tactic(auto)]
 
-ghost use Rattle.std.specs.Prelude.{List, ◌++◌, ◌≡◌, ℕ, ◌+◌, ◌<◌};
-ghost use Rattle.std.proofs.Math.Option.{some};
+ghost use Rattle.std.specs.Prelude.{List, ◌++◌, ◌≡◌, ℕ, ◌+◌, ◌<◌, Some};
 ghost use Rattle.frames.specs.Frames.{next_of};
 ghost use Rattle.frames.specs.Streams.{Rest, begun, waiting as waits, complete as completes, past, step};
 ghost use Rattle.frames.specs.declared.Next.TheVariants.{More};
@@ -44,7 +43,7 @@ fn waiting(piece: &[u8], kept: u32) -> Gathered
 
 // A frame is complete behind so many bytes of the piece.
 fn complete(used: usize, due: Due) -> Gathered
-    ensures { (bs contents : List ℕ) → due_of due bs ≡ some contents → IsWhole due bs → Gathers (completes used contents) bs result }
+    ensures { (bs contents : List ℕ) → due_of due bs ≡ Some contents → IsWhole due bs → Gathers (completes used contents) bs result }
 {
     Gathered { used, kept: 0, due }
 }

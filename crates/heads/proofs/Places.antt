@@ -5,7 +5,7 @@ use native.Mathlib.Omega.{arith}
 use mathlib.Core.Bool.{Bool, true, false, ◌&&◌}
 use mathlib.Core.Path.{◌≡◌, refl, sym, ap, ◌∙◌}
 use mathlib.Core.List.{List, [], ◌∷◌}
-use mathlib.Core.Option.{Option, none}
+use Rattle.std.specs.Prelude.{Option, None}
 use lib.Dec.{eqb}
 use lib.ListN.{length, get_or, take, drop, length-drop}
 use lib.Seq.{drop-drop, get_or-drop, take-take, take-nil}
@@ -55,7 +55,7 @@ module _ (s : List ℕ) (at tag len : ℕ) where
   unfolding listed
   here go e = rw (e, drop-drop 3 at s, drop-drop (3 + len) at s)
 
-  pub gone : {A : Type 0} (go : List ℕ → List ℕ → Option A) → starts tag len (drop at s) ≡ false → listed tag len (drop at s) go ≡ none
+  pub gone : {A : Type 0} (go : List ℕ → List ℕ → Option A) → starts tag len (drop at s) ≡ false → listed tag len (drop at s) go ≡ None
   unfolding listed
   gone go e = rw e
 

@@ -2,7 +2,7 @@
 use Prim.Native.Nat.{ℕ, zero, suc, ◌^◌}
 use mathlib.Core.Bool.{Bool, true, false, cond, ◌||◌}
 use mathlib.Core.List.{List, ◌++◌}
-use mathlib.Core.Option.{Option, some, none}
+use Rattle.std.specs.Prelude.{Option, Some, None}
 use mathlib.Core.Path.{◌≡◌, refl, sym, ap, ap₂, ◌∙◌}
 use Rattle.book.proofs.Agree.{says_agree}
 use Rattle.book.proofs.Calls.{refused_keeps}
@@ -32,8 +32,8 @@ module _ (c : Call) (b out : Buffers) where
   same_left zero = by c.answer
     where
       by : (v : Option ℕ) → c.left ≡ cond (accepts (accepted v)) c.left out
-      by none = refl
-      by (some v) = refl
+      by None = refl
+      by (Some v) = refl
   same_left (suc k) = refl
 
 module _ (n : ℕ) (g : Gate) (b out : Buffers) (e : (bad_length (2 ^ n) b || bad_length (2 ^ n) out) ≡ bad_length (2 ^ n) b) where

@@ -1,18 +1,17 @@
 -- A session in eight words, as a caller of the archive keeps it: n, its number, the count, the value, the mark, and three for requests to come.
 -- Definitions only. Assumes nothing.
-use Rattle.std.specs.Prelude.{ℕ, zero, suc, ◌%◌, ◌≤◌, ◌<◌, cond, List, [], ◌∷◌, ◌≡◌, eqb, length, get_or, set}
-use Rattle.std.proofs.Math.Option.{Option, some, none}
+use Rattle.std.specs.Prelude.{ℕ, zero, suc, ◌%◌, ◌≤◌, ◌<◌, cond, List, [], ◌∷◌, ◌≡◌, eqb, length, get_or, set, Option, Some, None}
 use Rattle.book.specs.Sessions.{Session}
 
 -- a value's word: 0 for none, v + 1 for a value v
 abbrev pub value_word : Option ℕ → ℕ
-value_word none = 0
-value_word (some v) = suc v
+value_word None = 0
+value_word (Some v) = suc v
 
 -- any word has a value, or none: the low byte counts
 abbrev pub value_in : ℕ → Option ℕ
-value_in zero = none
-value_in (suc k) = some (k % 256)
+value_in zero = None
+value_in (suc k) = Some (k % 256)
 
 -- any eight words are a session: of the count the low 16 bits count
 abbrev pub session_in : List ℕ → Session

@@ -5,7 +5,7 @@ use native.Mathlib.Omega.{arith}
 use mathlib.Core.Bool.{Bool, true, false, cond}
 use mathlib.Core.Path.{◌≡◌, refl, ap, ◌∙◌}
 use mathlib.Core.List.{List, [], ◌∷◌}
-use mathlib.Core.Option.{Option, some, none}
+use Rattle.std.specs.Prelude.{Option, Some, None}
 use lib.Dec.{eqb}
 use lib.Ieee.{Float}
 use lib.ListN.{length, take, drop, length-drop, drop_of_length-le}
@@ -38,52 +38,52 @@ use Rattle.masked.specs.declared.MaskField.TheVariants.{Controls as Mask, Missin
 -- ---- going on from what is there, and from the place behind it
 
 abbrev then : {A B : Type 0} → Option A → (A → Option B) → Option B
-then (some a) go = go a
-then none go = none
+then (Some a) go = go a
+then None go = None
 
 abbrev pub on_number : {B : Type 0} → Field → (ℕ → ℕ → Option B) → Option B
 on_number (Number n behind) go = go n behind
-on_number Missing go = none
+on_number Missing go = None
 
 abbrev pub on_mask : MaskField → (Controls → ℕ → Option Gate) → Option Gate
 on_mask (Mask c behind) go = go c behind
-on_mask NoMask go = none
+on_mask NoMask go = None
 
 abbrev pub on_pair : PairField → (Float → Float → ℕ → Option Gate) → Option Gate
 on_pair (Floats x y behind) go = go x y behind
-on_pair NoPair go = none
+on_pair NoPair go = None
 
 abbrev pub on_angles : AnglesField → (Angles → ℕ → Option Gate) → Option Gate
 on_angles (Eight a behind) go = go a behind
-on_angles NoAngles go = none
+on_angles NoAngles go = None
 
 then_number : {B : Type 0} (k : ℕ) (o : Option ℕ) (go : ℕ → ℕ → Option B) → then o (λ n. go n k) ≡ on_number (number_there k o) go
-then_number k (some n) go = refl
-then_number k none go = refl
+then_number k (Some n) go = refl
+then_number k None go = refl
 
 then_mask : (k : ℕ) (o : Option ℕ) (go : Controls → ℕ → Option Gate) → then o (λ n. go (controlled n) k) ≡ on_mask (mask_there k o) go
-then_mask k (some n) go = refl
-then_mask k none go = refl
+then_mask k (Some n) go = refl
+then_mask k None go = refl
 
 then_pair : (k : ℕ) (o : Option (Float × Float)) (go : Float → Float → ℕ → Option Gate)
     → then o (λ p. go p.0 p.1 k) ≡ on_pair (pair_there k o) go
-then_pair k (some p) go = refl
-then_pair k none go = refl
+then_pair k (Some p) go = refl
+then_pair k None go = refl
 
 then_angles : (k : ℕ) (o : Option Angles) (go : Angles → ℕ → Option Gate) → then o (λ a. go a k) ≡ on_angles (angles_there k o) go
-then_angles k (some a) go = refl
-then_angles k none go = refl
+then_angles k (Some a) go = refl
+then_angles k None go = refl
 
 -- ---- the two laws
 
 -- nothing after place k
 abbrev pub ending : {B : Type 0} → List ℕ → ℕ → B → Option B
-ending s k b = cond (eqb (length s) k) (some b) none
+ending s k b = cond (eqb (length s) k) (Some b) None
 
 last_ending : {B : Type 0} (s : List ℕ) (k : ℕ) (b : B) → k ≤ length s → last (drop k s) b ≡ ending s k b
 last_ending s k b h = by (eqb (length s) k) refl
   where
-    by : (t : Bool) → eqb (length s) k ≡ t → last (drop k s) b ≡ cond t (some b) none
+    by : (t : Bool) → eqb (length s) k ≡ t → last (drop k s) b ≡ cond t (Some b) None
     by true e = rw (drop_of_length-le s {i = k} (omega (arith, eqb-true (length s) k e)))
     by false e =
         let apart : length s ≡ k → ⊥ = eqb-false (length s) k e in
@@ -99,8 +99,8 @@ module _ {A B : Type 0} (of : List ℕ → A) (tag len at : ℕ) (s : List ℕ) 
   unfolding listed
   goes_on go = by (starts tag len (drop at s))
     where
-      by : (t : Bool) → cond t (go (of (contents len at s)) (drop (3 + len) (drop at s))) none
-          ≡ then (cond t (some (of (contents len at s))) none) (λ a. go a (drop (at + (3 + len)) s))
+      by : (t : Bool) → cond t (go (of (contents len at s)) (drop (3 + len) (drop at s))) None
+          ≡ then (cond t (Some (of (contents len at s))) None) (λ a. go a (drop (at + (3 + len)) s))
       by true = ap (go (of (contents len at s))) (drop-drop (3 + len) at s)
       by false = refl
 
@@ -111,8 +111,8 @@ module _ {A B : Type 0} (of : List ℕ → A) (tag len at : ℕ) (s : List ℕ) 
   goes_last g = by (starts tag len (drop at s)) refl
     where
       by : (t : Bool) → starts tag len (drop at s) ≡ t
-          → cond t (last (drop (3 + len) (drop at s)) (g (of (contents len at s)))) none
-          ≡ then (cond t (some (of (contents len at s))) none) (λ a. ending s (at + (3 + len)) (g a))
+          → cond t (last (drop (3 + len) (drop at s)) (g (of (contents len at s)))) None
+          ≡ then (cond t (Some (of (contents len at s))) None) (λ a. ending s (at + (3 + len)) (g a))
       by true e =
           let room : at + (3 + len) ≤ length s = omega (arith, has_room tag len (drop at s) e, length-drop at s) in
           ap (λ (l : List ℕ). last l (g (of (contents len at s)))) (drop-drop (3 + len) at s) ∙ last_ending s (at + (3 + len)) (g (of (contents len at s))) room
@@ -136,8 +136,8 @@ unfolding listed
 two_bytes t at s h g = by (starts 0x09 2 (drop at s)) refl
   where
     by : (x : Bool) → starts 0x09 2 (drop at s) ≡ x
-        → cond x (last (drop 5 (drop at s)) (g t (read_forced (contents 2 at s)))) none
-        ≡ cond x (last (drop 5 (drop at s)) (g t (record { outcome = number (contents 2 at s) / 256; reset = number (contents 2 at s) % 256 }))) none
+        → cond x (last (drop 5 (drop at s)) (g t (read_forced (contents 2 at s)))) None
+        ≡ cond x (last (drop 5 (drop at s)) (g t (record { outcome = number (contents 2 at s) / 256; reset = number (contents 2 at s) % 256 }))) None
     by true e =
         let size : length (contents 2 at s) ≡ 2 = length-take-le 2 (drop 3 (drop at s)) (rw length-drop (omega (arith, has_room 0x09 2 (drop at s) e))) in
         let are : Bytes (contents 2 at s) = bytes_take 2 (drop 3 (drop at s)) (bytes_drop 3 (drop at s) (bytes_drop at s h)) in

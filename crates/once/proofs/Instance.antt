@@ -2,7 +2,7 @@
 -- So what demand 3 says of it, it says of something. Assumes nothing.
 use Prim.Native.Nat.{ℕ, ◌+◌}
 use mathlib.Core.List.{List, [], ◌∷◌}
-use mathlib.Core.Option.{Option, some, none}
+use Rattle.std.specs.Prelude.{Option, Some, None}
 use mathlib.Core.Path.{refl}
 use native.Mathlib.Omega.{arith}
 use lib.Count.{ones}
@@ -71,8 +71,8 @@ abbrev before : Buffers
 before = real (1 ∷ 0 ∷ 0 ∷ 0 ∷ [])
 
 abbrev or_else : Buffers → Option Buffers → Buffers
-or_else b (some b') = b'
-or_else b none = b
+or_else b (Some b') = b'
+or_else b None = b
 
 pub given : Given 2 7 before records
 unfolding fused root first size_tests seat_tests swapped measured probability summed tabulate held chosen choice placed on_pairs

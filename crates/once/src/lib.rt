@@ -1,4 +1,4 @@
-// Deliveries one after the other: specs/ says exactly_once as the contract of a function that makes them, and proofs/ has the laws of its loop.
+// Deliveries one after the other: specs/ says exactly-once as the contract of a function that makes them, and proofs/ has the laws of its loop.
 #![tactic(auto)]
 
 ghost use Rattle.std.specs.Prelude.{◌≡◌, min};

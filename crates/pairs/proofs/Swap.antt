@@ -2,7 +2,7 @@
 use Prim.Native.Nat.{ℕ, ◌+◌, ◌^◌, ◌≤◌, ◌<◌}
 use mathlib.Core.Bool.{Bool, true, false, ◌||◌}
 use mathlib.Core.List.{[], ◌∷◌, ◌++◌}
-use mathlib.Core.Option.{none}
+use Rattle.std.specs.Prelude.{None}
 use mathlib.Core.Path.{◌≡◌, refl, ap, ap₂, subst}
 use native.Mathlib.Omega.{arith}
 use lib.Dec.{leb}
@@ -78,4 +78,4 @@ or_swap false false = refl
 pub swap_either : (n t u : ℕ) (b : Buffers) {r : Answer} {b' : Buffers} → Does (swap_of n t u b) r b' → Does (swap_of n u t b) r b'
 swap_either n t u b {r} {b'} d =
     subst (λ (o : Outcome). Does o r b')
-    (ap₂ (λ (x : Bool) (left : Buffers). outcome_of (size_tests n b) b (call (x ⇒ 3 ∷ []) none left)) (or_swap (leb n t) (leb n u)) (swapped_sym n t u b)) d
+    (ap₂ (λ (x : Bool) (left : Buffers). outcome_of (size_tests n b) b (call (x ⇒ 3 ∷ []) None left)) (or_swap (leb n t) (leb n u)) (swapped_sym n t u b)) d

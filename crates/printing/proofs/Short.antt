@@ -3,7 +3,7 @@ use Prim.Native.Nat.{ℕ, zero, suc, ◌+◌, ◌*◌, ◌/◌, ◌%◌, ◌^◌
 use native.Mathlib.Omega.{arith}
 use mathlib.Core.Bool.{Bool, true, false, cond}
 use mathlib.Core.List.{List, [], ◌∷◌, ◌++◌}
-use mathlib.Core.Option.{Option, some, none}
+use Rattle.std.specs.Prelude.{Option, Some, None}
 use lib.Dec.{ltb}
 use lib.Ieee.{Float, binary64, to_bits}
 use lib.ListN.{length, length-append}
@@ -58,8 +58,8 @@ saying_short (said (value v)) = omega arith
 saying_short (said (refused k)) = omega (arith, decimal_short k)
 
 adding_short : (v : Option ℕ) → length (adding v) ≤ 27
-adding_short none = omega arith
-adding_short (some v) = omega (arith, decimal_short v)
+adding_short None = omega arith
+adding_short (Some v) = omega (arith, decimal_short v)
 
 delivery_short : (i : ℕ) (r : Replied) (count : ℕ) → length (delivery_line i r count) ≤ 128
 delivery_short i r count = simp length-append (omega (arith, decimal_short i, saying_short r, decimal_short count, adding_short (value_told r)))

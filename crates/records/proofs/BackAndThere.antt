@@ -5,7 +5,7 @@ use native.Mathlib.Nat.{div-one}
 use native.Mathlib.Omega.{arith}
 use mathlib.Core.Path.{◌≡◌, refl, sym, ap, ◌∙◌, subst}
 use mathlib.Core.List.{List, [], ◌∷◌, ◌++◌, append-nil}
-use mathlib.Core.Option.{Option, some, none}
+use Rattle.std.specs.Prelude.{Option, Some, None}
 use lib.Ieee.{Float}
 use lib.ListN.{length, get_or}
 use Rattle.book.specs.Gates.{angle_of, angles_of, noise_of}
@@ -23,11 +23,11 @@ use Rattle.wire.proofs.Floats.{floats_there}
 use Rattle.wire.proofs.Numbers.{bytes_back}
 use Rattle.records.specs.RoundTrips.{floats_of, WritesBack, OneSpelling}
 
-no_answer : {A : Type 0} {a : A} → none ≡ some a → ⊥
+no_answer : {A : Type 0} {a : A} → None ≡ Some a → ⊥
 no_answer e = let z : ◌≡◌ {A = ℕ} 0 1 = cc in omega arith
 
 -- nothing stands behind the last field
-last_is : {A : Type 0} (rest : List ℕ) (a b : A) → last rest a ≡ some b → (rest ≡ []) × (a ≡ b)
+last_is : {A : Type 0} (rest : List ℕ) (a b : A) → last rest a ≡ Some b → (rest ≡ []) × (a ≡ b)
 last_is [] a b e = (refl, (cc))
 last_is (x ∷ rest) a b e = absurd (no_answer e)
 
@@ -40,7 +40,7 @@ record Last {A : Type 0} (tag len : ℕ) (bs : List ℕ) (f : List ℕ → A) (a
   within : Bytes contents
 
 last_field : {A : Type 0} (tag len : ℕ) (bs : List ℕ) (f : List ℕ → A) (a : A) → Bytes bs
-    → listed tag len bs (λ c rest. last rest (f c)) ≡ some a → Last tag len bs f a
+    → listed tag len bs (λ c rest. last rest (f c)) ≡ Some a → Last tag len bs f a
 last_field tag len bs f a h e =
     let (c, rest, w, q) = listed_is tag len bs (λ c rest. last rest (f c)) a h e in
     let (none_left, g) = last_is rest (f c) a q in
@@ -54,8 +54,8 @@ last_field tag len bs f a h e =
 
 -- the mask, and what stands behind it
 masked_is : {A : Type 0} (bs : List ℕ) (go : Controls → List ℕ → Option A) (a : A) → Bytes bs
-    → listed 0x05 4 bs (λ m rest. go (controlled (number m)) rest) ≡ some a
-    → (c : Controls) × (rest : List ℕ) × (bs ≡ mask_field c ++ rest) × Bytes rest × (go c rest ≡ some a)
+    → listed 0x05 4 bs (λ m rest. go (controlled (number m)) rest) ≡ Some a
+    → (c : Controls) × (rest : List ℕ) × (bs ≡ mask_field c ++ rest) × Bytes rest × (go c rest ≡ Some a)
 masked_is bs go a h e =
     let (m, rest, w, q) = listed_is 0x05 4 bs (λ m rest. go (controlled (number m)) rest) a h e in (
       controlled (number m),
@@ -74,7 +74,7 @@ record Spells (code t : ℕ) (bs : List ℕ) (g : Gate) : Type 0 where
   fields_are : fields_of (parts_of g).shape ≡ bs
 
 module _ (bs : List ℕ) (g : Gate) (h : Bytes bs) where
-  plain_there : (t : ℕ) (f : ℕ → Controls → Gate) → read_row (plain f) t bs ≡ some g → (c : Controls) × (f t c ≡ g) × (mask_field c ≡ bs)
+  plain_there : (t : ℕ) (f : ℕ → Controls → Gate) → read_row (plain f) t bs ≡ Some g → (c : Controls) × (f t c ≡ g) × (mask_field c ≡ bs)
   plain_there t f e =
       let w = last_field 0x05 4 bs (λ m. f t (controlled (number m))) g h e in
       (controlled (number w.contents), w.gives, ap (field 0x05) (bytes_back 4 w.contents w.within w.size) ∙ w.whole)
@@ -82,14 +82,14 @@ module _ (bs : List ℕ) (g : Gate) (h : Bytes bs) where
   -- the mask, and a field of floats, by how they are read and listed
   module _ {A : Type 0} (tag k : ℕ) (of : List ℕ → A) (all : A → List Float)
       (there : (c : List ℕ) → Bytes c → length c ≡ 8 * k → Each NotNan (all (of c)) → floats (all (of c)) ≡ c) where
-    floats_last : (rest : List ℕ) (f : A → Gate) → Bytes rest → listed tag (8 * k) rest (λ x rest'. last rest' (f (of x))) ≡ some g
+    floats_last : (rest : List ℕ) (f : A → Gate) → Bytes rest → listed tag (8 * k) rest (λ x rest'. last rest' (f (of x))) ≡ Some g
         → (a : A) × (f a ≡ g) × (Each NotNan (all a) → field tag (floats (all a)) ≡ rest)
     floats_last rest f is e =
         let w = last_field tag (8 * k) rest (λ x. f (of x)) g is e in
         (of w.contents, w.gives, λ ok. ap (field tag) (there w.contents w.within w.size ok) ∙ w.whole)
 
     masked_there : (f : Controls → A → Gate)
-        → listed 0x05 4 bs (λ m rest. listed tag (8 * k) rest λ x rest'. last rest' (f (controlled (number m)) (of x))) ≡ some g
+        → listed 0x05 4 bs (λ m rest. listed tag (8 * k) rest λ x rest'. last rest' (f (controlled (number m)) (of x))) ≡ Some g
         → (c : Controls) × (a : A) × (f c a ≡ g) × (Each NotNan (all a) → mask_field c ++ field tag (floats (all a)) ≡ bs)
     masked_there f e =
         let (c, rest, whole, after, q) = masked_is bs (λ c rest. listed tag (8 * k) rest λ x rest'. last rest' (f c (of x))) g h e in
@@ -121,7 +121,7 @@ module _ (t : ℕ) (bs : List ℕ) (g : Gate) (h : Bytes bs) (ok : Each NotNan (
       let fine = subst (λ (x : Gate). Each NotNan (floats_of (parts_of x).shape)) (sym e) ok in
       subst (Spells code t bs) e (record { code_is = c; target_is = t'; fields_are = w fine })
 
-  gate_there : (code : ℕ) → read_row (row_of code) t bs ≡ some g → Spells code t bs g
+  gate_there : (code : ℕ) → read_row (row_of code) t bs ≡ Some g → Spells code t bs g
   gate_there zero e = absurd (no_answer e)
   gate_there (suc zero) e = let (c, p, w) = plain_there bs g h t H e in spells 1 (H t c) p refl refl (λ o. w)
   gate_there (suc (suc zero)) e = let (c, p, w) = plain_there bs g h t X e in spells 2 (X t c) p refl refl (λ o. w)
@@ -158,25 +158,25 @@ module _ (t : ℕ) (bs : List ℕ) (g : Gate) (h : Bytes bs) (ok : Each NotNan (
 -- ---- the record
 
 record Made (session k : ℕ) (o : Option Gate) (r : Record) : Type 0 where
-  gate : o ≡ some r.gate
+  gate : o ≡ Some r.gate
   session_is : r.session ≡ session
   number_is : r.number ≡ k
 
-made_is : (session k : ℕ) (o : Option Gate) (r : Record) → record_with session k o ≡ some r → Made session k o r
-made_is session k (some g) r e =
+made_is : (session k : ℕ) (o : Option Gate) (r : Record) → record_with session k o ≡ Some r → Made session k o r
+made_is session k (Some g) r e =
     let here : Record = record { session = session; number = k; gate = g } in
     let p : r ≡ here = cc e in
     record {
-      gate = ap (λ (x : Record). some x.gate) (sym p);
+      gate = ap (λ (x : Record). Some x.gate) (sym p);
       session_is = ap (λ (x : Record). x.session) p;
       number_is = ap (λ (x : Record). x.number) p;
     }
-made_is session k none r e = absurd (no_answer e)
+made_is session k None r e = absurd (no_answer e)
 
 -- a field of one number, and what stands behind it
 number_is : {A : Type 0} (tag width : ℕ) (bs : List ℕ) (go : ℕ → List ℕ → Option A) (a : A) → Bytes bs
-    → listed tag width bs (λ c rest. go (number c) rest) ≡ some a
-    → (n : ℕ) × (rest : List ℕ) × (field tag (bytes width n) ++ rest ≡ bs) × Bytes rest × (go n rest ≡ some a)
+    → listed tag width bs (λ c rest. go (number c) rest) ≡ Some a
+    → (n : ℕ) × (rest : List ℕ) × (field tag (bytes width n) ++ rest ≡ bs) × Bytes rest × (go n rest ≡ Some a)
 number_is tag width bs go a h e =
     let (c, rest, w, q) = listed_is tag width bs (λ c rest. go (number c) rest) a h e in
     (number c, rest, ap (λ (l : List ℕ). field tag l ++ rest) (bytes_back width c w.within w.size) ∙ sym w.whole, w.after, q)

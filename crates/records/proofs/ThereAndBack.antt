@@ -4,7 +4,7 @@ use native.Mathlib.Nat.{div-one}
 use native.Mathlib.Omega.{arith}
 use mathlib.Core.Path.{◌≡◌, ap, ◌∙◌}
 use mathlib.Core.List.{List, [], ◌++◌}
-use mathlib.Core.Option.{Option, some}
+use Rattle.std.specs.Prelude.{Option, Some}
 use Rattle.book.specs.Gates.{angle_of, angles_of, noise_of}
 use Rattle.book.specs.Records.{bytes, floats, field, parts_of, fields_of, read_angle, read_angles, read_noise}
 use Rattle.book.specs.Records.{plain, angled, eight, second, forced, noisy, row_of, read_row, record_with, read_record}
@@ -53,10 +53,10 @@ angles_back g h =
 -- ---- the shapes
 
 module _ (t : ℕ) (c : Controls) (h : c.ones < 2 ^ 32) where
-  plain_back : (g : ℕ → Controls → Gate) → read_row (plain g) t (fields_of (Plain c)) ≡ some (g t c)
+  plain_back : (g : ℕ → Controls → Gate) → read_row (plain g) t (fields_of (Plain c)) ≡ Some (g t c)
   plain_back g = rw (listed_field 0x05 (bytes 4 c.ones) [], number_bytes 4 c.ones h)
 
-  angled_back : (g : ℕ → Controls → Angle → Gate) (a : Angle) → Each IsF64 (angle_of a) → read_row (angled g) t (fields_of (Angled c a)) ≡ some (g t c a)
+  angled_back : (g : ℕ → Controls → Angle → Gate) (a : Angle) → Each IsF64 (angle_of a) → read_row (angled g) t (fields_of (Angled c a)) ≡ Some (g t c a)
   angled_back g a f =
       rw (
         listed_field 0x05 (bytes 4 c.ones) (field 0x07 (floats (angle_of a))),
@@ -65,7 +65,7 @@ module _ (t : ℕ) (c : Controls) (h : c.ones < 2 ^ 32) where
         angle_back a f,
       )
 
-  eight_back : (g : ℕ → Controls → Angles → Gate) (a : Angles) → Each IsF64 (angles_of a) → read_row (eight g) t (fields_of (Eight c a)) ≡ some (g t c a)
+  eight_back : (g : ℕ → Controls → Angles → Gate) (a : Angles) → Each IsF64 (angles_of a) → read_row (eight g) t (fields_of (Eight c a)) ≡ Some (g t c a)
   eight_back g a f =
       rw (
         listed_field 0x05 (bytes 4 c.ones) (field 0x08 (floats (angles_of a))),
@@ -75,20 +75,20 @@ module _ (t : ℕ) (c : Controls) (h : c.ones < 2 ^ 32) where
       )
 
 module _ (t : ℕ) where
-  second_back : (g : ℕ → ℕ → Gate) (u : ℕ) → u < 256 → read_row (second g) t (fields_of (Second u)) ≡ some (g t u)
+  second_back : (g : ℕ → ℕ → Gate) (u : ℕ) → u < 256 → read_row (second g) t (fields_of (Second u)) ≡ Some (g t u)
   second_back g u h = rw (listed_field 0x06 (bytes 1 u) [], number_bytes 1 u h)
 
-  forced_back : (g : ℕ → ForcedBy → Gate) (f : ForcedBy) → read_row (forced g) t (fields_of (Forced f)) ≡ some (g t f)
+  forced_back : (g : ℕ → ForcedBy → Gate) (f : ForcedBy) → read_row (forced g) t (fields_of (Forced f)) ≡ Some (g t f)
   forced_back g f = rw (listed_field 0x09 (bytes 1 f.outcome ++ bytes 1 f.reset) [], div-one f.outcome, div-one f.reset)
 
-  noisy_back : (g : ℕ → Noise → Gate) (n : Noise) → Each IsF64 (noise_of n) → read_row (noisy g) t (fields_of (Noisy n)) ≡ some (g t n)
+  noisy_back : (g : ℕ → Noise → Gate) (n : Noise) → Each IsF64 (noise_of n) → read_row (noisy g) t (fields_of (Noisy n)) ≡ Some (g t n)
   noisy_back g n f = rw (listed_field 0x0A (floats (noise_of n)) [], noise_back n f)
 
 -- a gate in parts comes back from its row
 abbrev read_parts : Parts → Option Gate
 read_parts p = read_row (row_of p.code) p.target (fields_of p.shape)
 
-gate_back : (g : Gate) → OwnFits (parts_of g).shape → Each IsF64 (floats_of (parts_of g).shape) → read_parts (parts_of g) ≡ some g
+gate_back : (g : Gate) → OwnFits (parts_of g).shape → Each IsF64 (floats_of (parts_of g).shape) → read_parts (parts_of g) ≡ Some g
 gate_back (H t c) h f = plain_back t c h H
 gate_back (X t c) h f = plain_back t c h X
 gate_back (Y t c) h f = plain_back t c h Y

@@ -1,7 +1,6 @@
 -- Records written and read back, and bytes read and written back: the statements, which proofs/ shows. Definitions only. Assumes nothing.
 -- The logic has one NaN. So a record with a NaN reads back as written too; bytes with another NaN than 7FF8000000000000 do not write back.
-use Rattle.std.specs.Prelude.{ℕ, ◌≤◌, ◌<◌, ◌^◌, true, List, [], ◌≡◌, Float, length}
-use Rattle.std.proofs.Math.Option.{some}
+use Rattle.std.specs.Prelude.{ℕ, ◌≤◌, ◌<◌, ◌^◌, true, List, [], ◌≡◌, Float, length, Some}
 use Rattle.book.specs.Answers.{or_denied, Buffers, accepts}
 use Rattle.book.specs.Calls.{act}
 use Rattle.book.specs.Gates.{angle_of, angles_of, noise_of}
@@ -50,21 +49,21 @@ NoNan r = Each NotNan (floats_of (parts_of r.gate).shape)
 
 -- a record reads back as it was written, NaN or not
 abbrev pub ReadsBack : Type 0
-ReadsBack = (r : Record) → Held r → read_record (write_record r) ≡ some r
+ReadsBack = (r : Record) → Held r → read_record (write_record r) ≡ Some r
 
 -- bytes that are read write back as they were, where no NaN is among the record's numbers
 abbrev pub WritesBack : Type 0
-WritesBack = (bs : List ℕ) (r : Record) → Bytes bs → read_record bs ≡ some r → NoNan r → write_record r ≡ bs
+WritesBack = (bs : List ℕ) (r : Record) → Bytes bs → read_record bs ≡ Some r → NoNan r → write_record r ≡ bs
 
 -- each meaning has one spelling: bytes that are read as the same record are the same, where no NaN is among its numbers
 abbrev pub OneSpelling : Type 0
-OneSpelling = (bs cs : List ℕ) (r : Record) → Bytes bs → Bytes cs → read_record bs ≡ some r → read_record cs ≡ some r → NoNan r → bs ≡ cs
+OneSpelling = (bs cs : List ℕ) (r : Record) → Bytes bs → Bytes cs → read_record bs ≡ Some r → read_record cs ≡ Some r → NoNan r → bs ≡ cs
 
 -- bytes whose record is taken write back as they were: 6 refuses a NaN
 abbrev pub TakenWritesBack : Type 0
 TakenWritesBack =
     (n : ℕ) (b : Buffers) (bs : List ℕ) (r : Record)
-    → Bytes bs → read_record bs ≡ some r → accepts (act n r.gate b).says ≡ true → write_record r ≡ bs
+    → Bytes bs → read_record bs ≡ Some r → accepts (act n r.gate b).says ≡ true → write_record r ≡ bs
 
 -- ---- sizes
 

@@ -3,7 +3,7 @@
 use Prim.Native.Nat.{ℕ}
 use mathlib.Core.Path.{◌≡◌, refl, sym, ap, ap₂, ◌∙◌}
 use Rattle.book.proofs.Agree.{agree, refusal_of, refusal_back, answer_of, answer_back}
-use mathlib.Core.Option.{Option, some, none}
+use Rattle.std.specs.Prelude.{Option, Some, None}
 use Rattle.book.specs.Answers.{value_or_none, Replied, again, said, replies, Gives, gives, denied, Buffers}
 use Rattle.book.specs.Sessions as Book
 use Rattle.book.specs.declared.Reply.{Reply}
@@ -17,8 +17,8 @@ use Rattle.sessions.specs.declared.Started.{Started}
 use Rattle.sessions.specs.declared.Started.TheVariants.{Fresh, Refused as Unstarted}
 
 abbrev told_back : Option ℕ → ValueOrNone
-told_back none = None
-told_back (some v) = Value v
+told_back None = None
+told_back (Some v) = Value v
 
 value_back : (x : ValueOrNone) → told_back (value_or_none x) ≡ x
 value_back None = refl

@@ -3,7 +3,7 @@
 use Prim.Native.Nat.{ℕ, zero, suc, ◌+◌}
 use mathlib.Core.Bool.{Bool, true, false, cond}
 use mathlib.Core.List.{List, ◌++◌}
-use mathlib.Core.Option.{Option, some, none}
+use Rattle.std.specs.Prelude.{Option, Some, None}
 use mathlib.Core.Path.{◌≡◌, refl, sym, ap, ap₂, ◌∙◌}
 use Rattle.book.proofs.Calls.{refused_keeps, sized_right, sized_wrong}
 use Rattle.book.proofs.Refusals.{sizes_numbered}
@@ -35,15 +35,15 @@ module _ (s : Book.Session) (b : Buffers) (bytes : List ℕ) where
       by zero = e
       by (suc k) = refl
 
-  pub unread : read_record bytes ≡ none → deliver s b bytes ≡ unsized s b (said (refused 8))
+  pub unread : read_record bytes ≡ None → deliver s b bytes ≡ unsized s b (said (refused 8))
   unread e = stays (said (refused 8)) (ap (take_read s b 0) e)
 
-  module _ (r : Record) (e : read_record bytes ≡ some r) where
-    pub answered : (x : Replied) → some x ≡ standing s r → deliver s b bytes ≡ unsized s b x
+  module _ (r : Record) (e : read_record bytes ≡ Some r) where
+    pub answered : (x : Replied) → Some x ≡ standing s r → deliver s b bytes ≡ unsized s b x
     answered x f = stays x (ap (take_read s b 0) e ∙ ap (take_record s b r) (sym f))
 
     -- the next record: its gate decides, 1 and 2 too
-    pub goes : none ≡ standing s r → deliver s b bytes ≡ counted s b r (call_of s.n r.gate b).answer (act s.n r.gate b)
+    pub goes : None ≡ standing s r → deliver s b bytes ≡ counted s b r (call_of s.n r.gate b).answer (act s.n r.gate b)
     unfolding deliver
     goes f = by (first (size_tests s.n b)) refl
       where
@@ -67,8 +67,8 @@ kept_by_lem : (k : ℕ) (b : Buffers) (c : Call) (v : Option ℕ) → kept_by (u
 kept_by_lem zero b c v = by c.answer
   where
     by : (x : Option ℕ) → kept_by (accepted x) v ≡ cond (accepts (accepted x)) x v
-    by none = refl
-    by (some w) = refl
+    by None = refl
+    by (Some w) = refl
 kept_by_lem (suc k) b c v = refl
 
 module _ (s : Session) (b : Buffers) {a : Delivered} {k : Counted} (e : a ≡ told s k) where

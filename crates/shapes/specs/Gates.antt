@@ -1,6 +1,5 @@
 -- A gate or none; and the gates of the codes that share a shape, by code, the last of them for any other code. Definitions only. Assumes nothing.
-use Rattle.std.specs.Prelude.{ℕ, cond, eqb}
-use Rattle.std.proofs.Math.Option.{Option, some, none}
+use Rattle.std.specs.Prelude.{ℕ, cond, eqb, Option, Some, None}
 use Rattle.book.specs.declared.Angle.{Angle}
 use Rattle.book.specs.declared.Controls.{Controls}
 use Rattle.book.specs.declared.Gate.{Gate}
@@ -9,8 +8,8 @@ use Rattle.shapes.specs.declared.Made.{Made}
 use Rattle.shapes.specs.declared.Made.TheVariants.{Gate as Found, Missing}
 
 abbrev pub made_of : Option Gate → Made
-made_of (some g) = Found g
-made_of none = Missing
+made_of (Some g) = Found g
+made_of None = Missing
 
 -- the first, second, third or last of four
 abbrev pub one_of : {A : Type 0} → ℕ → ℕ → ℕ → ℕ → A → A → A → A → A

@@ -1,6 +1,5 @@
 -- Which gates the slow engine runs in place, and what it then does. Definitions only. Assumes nothing.
-use Rattle.std.specs.Prelude.{ℕ, Bool, true, false, ◌&&◌, [], ◌≡◌, leb, length}
-use Rattle.std.proofs.Math.Option.{none}
+use Rattle.std.specs.Prelude.{ℕ, Bool, true, false, ◌&&◌, [], ◌≡◌, leb, length, None}
 use Rattle.book.specs.Answers.{Buffers, Outcome, Call, call, Does}
 use Rattle.book.specs.Kernels.{swap_call, bit_flip_call}
 use Rattle.book.specs.declared.Answer.{Answer}
@@ -38,7 +37,7 @@ abbrev pub call_for : Asked → ℕ → Buffers → Call
 call_for (Pairs t c rule) n b = rule_call rule n t c b
 call_for (Exchange t0 t1) n b = swap_call n t0 t1 b
 call_for (Flip t noise) n b = bit_flip_call n t noise b
-call_for Nothing n b = call [] none b
+call_for Nothing n b = call [] None b
 
 -- the second state has 2048 places
 abbrev pub has_room : Buffers → Bool

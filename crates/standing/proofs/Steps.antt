@@ -1,6 +1,6 @@
 -- Where a record stands, test by test: each test that applies, with those before it passed, gives the reply. Assumes nothing.
 use Prim.Native.Nat.{ℕ, ◌+◌, ◌≤◌, ◌<◌}
-use mathlib.Core.Option.{Option, some}
+use Rattle.std.specs.Prelude.{Option, Some}
 use mathlib.Core.Path.{◌≡◌, sym, ap, ap₂, ◌∙◌}
 use native.Mathlib.Omega.{arith}
 use borrow.Author.Tests.{lt-ltb, le-ltb, eq-eqb, ne_eqb}
@@ -42,7 +42,7 @@ module _ (own count : ℕ) (v : ValueOrNone) (r : Record) where
             is = λ s e f k.
                 let tells = told ∙ ap₂ (λ (m : ℕ) (w : Option ℕ). told_again m w r.number) (sym f) (sym k) in
                 rw (eq-eqb r.session s.number (theirs s e), ne_eqb r.number 65535 room, lt-ltb r.number s.count (omega (arith, f)))
-                (ap (λ (w : Option ℕ). some (again w)) tells);
+                (ap (λ (w : Option ℕ). Some (again w)) tells);
             next = λ j e. no_next e;
           }
 

@@ -2,7 +2,7 @@
 use Prim.Native.Nat.{ℕ, ◌*◌, ◌/◌, ◌%◌, ◌^◌, ◌≤◌, ◌<◌}
 use mathlib.Core.Bool.{Bool, true, false}
 use mathlib.Core.List.{[], ◌∷◌, ◌++◌}
-use mathlib.Core.Option.{none}
+use Rattle.std.specs.Prelude.{None}
 use mathlib.Core.Path.{◌≡◌, refl, sym, ap, ◌∙◌, subst}
 use native.Mathlib.Nat.{lt_of_lt_of_le}
 use borrow.Author.Tests.{le-leb, lt-leb, leb-false}
@@ -96,7 +96,7 @@ pub ruleset seats = (seat_out, seat_long, seat_far, seat_passed)
 
 module _ (m : Matrix) (n target : ℕ) (b : Buffers) where
   abbrev pub work : Call
-  work = call (leb n target ⇒ 3 ∷ finite_tests (numbers_of m)) none (held_dense n (crossing m target))
+  work = call (leb n target ⇒ 3 ∷ finite_tests (numbers_of m)) None (held_dense n (crossing m target))
 
   pub gate_judged : {s o r : Answer} → Judges (matrix_tests (entries n) n b ++ free_tests n target) s → Judges (finite_tests (numbers_of m)) o
       → r ≡ first_of s o → Judges (matrix_tests (entries n) n b ++ work.tests) r

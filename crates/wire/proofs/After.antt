@@ -1,7 +1,7 @@
 -- What a record reads after each of its first four fields: `read_record bs` is `listed 0x01 4 bs λ session. after1 (number session)`. Assumes nothing.
 use Prim.Native.Nat.{ℕ}
 use mathlib.Core.List.{List}
-use mathlib.Core.Option.{Option}
+use Rattle.std.specs.Prelude.{Option}
 use Rattle.book.specs.Records.{number, listed, row_of, read_row, record_with}
 use Rattle.book.specs.declared.Record.{Record}
 

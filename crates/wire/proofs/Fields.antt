@@ -5,7 +5,7 @@ use native.Mathlib.Omega.{arith}
 use mathlib.Core.Bool.{Bool, true, false, ◌&&◌, cond}
 use mathlib.Core.Path.{◌≡◌, refl, sym, ap, ◌∙◌}
 use mathlib.Core.List.{List, [], ◌∷◌, ◌++◌}
-use mathlib.Core.Option.{Option, some, none}
+use Rattle.std.specs.Prelude.{Option, Some, None}
 use lib.Dec.{leb, eqb}
 use lib.ListN.{length, get_or, take, drop, length-append, length-drop, take-append-drop}
 use lib.Seq.{take-append_seam, drop-append_seam, drop-append-add, length-take-le}
@@ -94,8 +94,8 @@ starts_is tag len bs h e =
     }
 
 -- a reading that ends well went on from the field that is listed
-pub listed_is : {A : Type 0} (tag len : ℕ) (bs : List ℕ) (go : List ℕ → List ℕ → Option A) (a : A) → Bytes bs → listed tag len bs go ≡ some a
-    → (contents rest : List ℕ) × Field tag len bs contents rest × (go contents rest ≡ some a)
+pub listed_is : {A : Type 0} (tag len : ℕ) (bs : List ℕ) (go : List ℕ → List ℕ → Option A) (a : A) → Bytes bs → listed tag len bs go ≡ Some a
+    → (contents rest : List ℕ) × Field tag len bs contents rest × (go contents rest ≡ Some a)
 unfolding listed
 listed_is {A} tag len bs go a h = by (starts tag len bs) refl
   where
@@ -105,7 +105,7 @@ listed_is {A} tag len bs go a h = by (starts tag len bs) refl
     rest : List ℕ
     rest = drop (3 + len) bs
 
-    by : (b : Bool) → starts tag len bs ≡ b → cond b (go contents rest) none ≡ some a
-        → (c r : List ℕ) × Field tag len bs c r × (go c r ≡ some a)
+    by : (b : Bool) → starts tag len bs ≡ b → cond b (go contents rest) None ≡ Some a
+        → (c r : List ℕ) × Field tag len bs c r × (go c r ≡ Some a)
     by true e q = (contents, rest, starts_is tag len bs h e, q)
     by false e q = let z : ◌≡◌ {A = ℕ} 0 1 = cc in absurd (omega arith)

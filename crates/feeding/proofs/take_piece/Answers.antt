@@ -2,7 +2,7 @@
 use Prim.Native.Nat.{ℕ, ◌+◌, ◌-◌, ◌<◌}
 use native.Mathlib.Omega.{arith}
 use mathlib.Core.List.{List, ◌++◌}
-use mathlib.Core.Option.{some}
+use Rattle.std.specs.Prelude.{Some}
 use mathlib.Core.Path.{◌≡◌, sym, ap, ◌∙◌, subst}
 use lib.ListN.{length, take, drop}
 use Rattle.book.specs.Answers.{buffers}
@@ -71,7 +71,7 @@ returns-then-used-end c =
     let g = c.gather-gathered in
     let p = parts a.held.now a.kept a.piece.now g.ensures (omega arith) c.in-Frame.is c.if-used-end.true in
     search
-    (made a.held.now a.kept a.piece.now (ap some p.contents_are ∙ due_at a.held.now a.kept a.piece.now g.ensures c.in-Frame.is) (p.last_is ∙ g.ensures.used)
+    (made a.held.now a.kept a.piece.now (ap Some p.contents_are ∙ due_at a.held.now a.kept a.piece.now g.ensures c.in-Frame.is) (p.last_is ∙ g.ensures.used)
     c.make_joined.ensures)
 
 pub slice_bounds-make-end : goal.slice_bounds-make-end
@@ -104,12 +104,12 @@ returns-else-used-end c =
     let a = c.args in
     let g = c.gather-gathered in
     let len = c.in-Frame.len in
-    let none =
+    let None =
     none_held (rest_of a.held.now a.kept) a.piece.now (whole a.held.now a.kept a.piece.now g.ensures c.in-Frame.is)
     (rw g.ensures.used at c.if-used-end.false) in
     let same : 3 + len - 3 ≡ len = omega arith in
-    let here = ap (λ (n : ℕ). take n (drop 3 a.piece.now)) same ∙ ap (λ (h : List ℕ). take len (drop 3 (h ++ a.piece.now))) (sym none) in
-    search (made a.held.now a.kept a.piece.now (ap some here ∙ due_at a.held.now a.kept a.piece.now g.ensures c.in-Frame.is) g.ensures.used c.make.ensures)
+    let here = ap (λ (n : ℕ). take n (drop 3 a.piece.now)) same ∙ ap (λ (h : List ℕ). take len (drop 3 (h ++ a.piece.now))) (sym None) in
+    search (made a.held.now a.kept a.piece.now (ap Some here ∙ due_at a.held.now a.kept a.piece.now g.ensures c.in-Frame.is) g.ensures.used c.make.ensures)
 
 pub returns-in-TooLong : goal.returns-in-TooLong
 returns-in-TooLong c =

@@ -5,7 +5,7 @@ use mathlib.Core.Bool.{true}
 use mathlib.Core.Path.{◌≡◌, sym, ap, ◌∙◌}
 use lib.ListN.{take, drop}
 use mathlib.Core.List.{List}
-use mathlib.Core.Option.{some}
+use Rattle.std.specs.Prelude.{Some}
 use Rattle.book.specs.Records.{starts, read_angles}
 use Rattle.fields.specs.Answers.{angles_there}
 use Rattle.fields.specs.declared.AnglesField.TheVariants.{Angles as Eight}
@@ -30,10 +30,10 @@ pub returns-then-starts_at : goal.returns-then-starts_at
 returns-then-starts_at c = let there : (let a = c.args in starts a.tag 64 (drop a.at a.bytes.now) ≡ true) = sym c.starts_at.ensures ∙ c.if-starts_at.true in
     let a = c.args in
     let eight = c.angles_at.ensures ∙ sym (angles_take (drop (a.at + 3) a.bytes.now)) in
-    let is = here a.bytes.now a.at a.tag 64 (λ x r. some (read_angles x)) there in
+    let is = here a.bytes.now a.at a.tag 64 (λ x r. Some (read_angles x)) there in
     (λ i. Eight (eight i) (a.at + 67)) ∙ ap (angles_there (a.at + 67)) (sym is)
 
 pub returns-else-starts_at : goal.returns-else-starts_at
 returns-else-starts_at c = let a = c.args in
-    let missing = gone a.bytes.now a.at a.tag 64 (λ x r. some (read_angles x)) (sym c.starts_at.ensures ∙ c.if-starts_at.false) in
+    let missing = gone a.bytes.now a.at a.tag 64 (λ x r. Some (read_angles x)) (sym c.starts_at.ensures ∙ c.if-starts_at.false) in
     ap (angles_there (a.at + 67)) (sym missing)

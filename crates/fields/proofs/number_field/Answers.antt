@@ -3,7 +3,7 @@
 use Prim.Native.Nat.{ℕ, ◌+◌, ◌^◌, ◌<◌}
 use native.Mathlib.Omega.{arith}
 use mathlib.Core.Bool.{true}
-use mathlib.Core.Option.{some}
+use Rattle.std.specs.Prelude.{Some}
 use mathlib.Core.Path.{◌≡◌, sym, ap, ◌∙◌}
 use lib.ListN.{drop}
 use borrow.Author.Tests.{le-leb}
@@ -24,7 +24,7 @@ returns-then-starts_at c = let a = c.args in
     let n = c.number_at in
     let behind = a.at + (3 + a.width) in
     let narrow = le-leb a.width 8 c.if-width-gt-WIDEST.false in
-    let is = here a.bytes.now a.at a.tag a.width (λ x r. some (number x)) there in
+    let is = here a.bytes.now a.at a.tag a.width (λ x r. Some (number x)) there in
     record {
       is = rw (narrow, is) (ap (λ (m : ℕ). Number m behind) n.ensures.0);
       small = λ m j e. rw (← same_number n.result behind m j e) n.ensures.1;
@@ -33,5 +33,5 @@ returns-then-starts_at c = let a = c.args in
 pub returns-else-starts_at : goal.returns-else-starts_at
 returns-else-starts_at c = let a = c.args in
     let narrow = le-leb a.width 8 c.if-width-gt-WIDEST.false in
-    let missing = gone a.bytes.now a.at a.tag a.width (λ x r. some (number x)) (sym c.starts_at.ensures ∙ c.if-starts_at.false) in
+    let missing = gone a.bytes.now a.at a.tag a.width (λ x r. Some (number x)) (sym c.starts_at.ensures ∙ c.if-starts_at.false) in
     record { is = rw (narrow, missing); small = λ m j e. no_number m j (256 ^ a.width) e }

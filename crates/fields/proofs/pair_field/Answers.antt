@@ -4,7 +4,7 @@ use native.Mathlib.Omega.{arith}
 use mathlib.Core.Bool.{true}
 use mathlib.Core.Path.{◌≡◌, sym, ap, ◌∙◌}
 use lib.ListN.{drop}
-use mathlib.Core.Option.{some}
+use Rattle.std.specs.Prelude.{Some}
 use Rattle.book.specs.Records.{starts}
 use Rattle.fields.specs.Answers.{two_floats, pair_there}
 use Rattle.fields.specs.declared.PairField.TheVariants.{Floats}
@@ -17,10 +17,10 @@ returns-then-starts_at c = let there : (let a = c.args in starts a.tag 16 (drop 
     let there_at = drop (a.at + 3) a.bytes.now in
     let x = c.float_at.ensures ∙ sym (float_take 16 0 there_at (omega arith)) in
     let y = c.float_at-then-starts_at.ensures ∙ sym (float_take 16 1 there_at (omega arith)) in
-    let is = here a.bytes.now a.at a.tag 16 (λ x r. some (two_floats x)) there in
+    let is = here a.bytes.now a.at a.tag 16 (λ x r. Some (two_floats x)) there in
     (λ i. Floats (x i) (y i) (a.at + 19)) ∙ ap (pair_there (a.at + 19)) (sym is)
 
 pub returns-else-starts_at : goal.returns-else-starts_at
 returns-else-starts_at c = let a = c.args in
-    let missing = gone a.bytes.now a.at a.tag 16 (λ x r. some (two_floats x)) (sym c.starts_at.ensures ∙ c.if-starts_at.false) in
+    let missing = gone a.bytes.now a.at a.tag 16 (λ x r. Some (two_floats x)) (sym c.starts_at.ensures ∙ c.if-starts_at.false) in
     ap (pair_there (a.at + 19)) (sym missing)

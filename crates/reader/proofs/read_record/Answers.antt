@@ -2,7 +2,7 @@
 -- book's reading by the answers. Assumes nothing.
 use Prim.Native.Nat.{ℕ}
 use native.Mathlib.Omega.{arith}
-use mathlib.Core.Option.{Option, some, none}
+use Rattle.std.specs.Prelude.{Option, Some, None}
 use mathlib.Core.Path.{◌≡◌, sym, ◌∙◌}
 use lib.ListN.{drop}
 use Rattle.book.specs.Answers.{gives, denied, or_denied}
@@ -14,13 +14,13 @@ use Rattle.shapes.specs.declared.Made.TheVariants.{Gate as Made, Missing as NoGa
 use Rattle.reader.proofs.read_record.Goals as goal
 
 unread_gate : (session k : ℕ) (o : Option Gate) → made_of o ≡ NoGate → denied 8 ≡ or_denied 8 (record_with session k o)
-unread_gate session k (some g) e = let z : ◌≡◌ {A = ℕ} 0 1 = cc in absurd (omega arith)
-unread_gate session k none e = cc
+unread_gate session k (Some g) e = let z : ◌≡◌ {A = ℕ} 0 1 = cc in absurd (omega arith)
+unread_gate session k None e = cc
 
 read_gate : (session k : ℕ) (g : Gate) (o : Option Gate) → made_of o ≡ Made g
     → gives (record { session = session; number = k; gate = g }) ≡ or_denied 8 (record_with session k o)
-read_gate session k g (some h) e = cc
-read_gate session k g none e = let z : ◌≡◌ {A = ℕ} 0 1 = cc in absurd (omega arith)
+read_gate session k g (Some h) e = cc
+read_gate session k g None e = let z : ◌≡◌ {A = ℕ} 0 1 = cc in absurd (omega arith)
 
 pub returns-in_default : goal.returns-in_default
 returns-in_default c =
