@@ -53,11 +53,7 @@ fn root_step(d: Partial) -> Partial
             r: r - (4 * q + 1),
         }
     } else {
-        Partial {
-            a: b,
-            q: 2 * q,
-            r: r,
-        }
+        Partial { a: b, q: 2 * q, r }
     }
 }
 
@@ -71,10 +67,8 @@ fn root_digits(n: u64) -> u64
         q: 0,
         r: 0,
     };
-    let mut i: u64 = 0;
-    while i < TURNS {
+    for _i in 0..TURNS {
         d = root_step(d);
-        i = i + 1;
     }
     to_odd(2 * d.q, d.r)
 }
