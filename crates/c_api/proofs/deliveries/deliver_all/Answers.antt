@@ -6,7 +6,7 @@ use Rattle.c_api.proofs.deliveries.deliver_all.Goals as goal
 
 pub loop-asked-preserved : goal.loop-asked-preserved
 loop-asked-preserved c =
-    turn c.loop-asked.invariant (omega arith) c.next_size.ensures c.split_at.ensures.0 c.split_at.ensures.1
+    turn c.loop-asked.invariant (omega arith) c.next_size.ensures c.split_at.ensures.front c.split_at.ensures.back
     c.gate_bench_deliver.ensures.session c.gate_bench_deliver.ensures.leaves (search rules)
 
 pub returns : goal.returns

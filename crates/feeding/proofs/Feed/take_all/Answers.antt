@@ -13,6 +13,6 @@ pub loop-asked-preserved : goal.loop-asked-preserved
 loop-asked-preserved c = let inv = c.loop-asked.invariant in
     let took = c.take_whole-filling.ensures in (
       inv.0 ++ _,
-      next_piece inv.1 (omega arith) c.next_size.ensures c.split_at.ensures.0 c.split_at.ensures.1 took.takes (search rules),
+      next_piece inv.1 (omega arith) c.next_size.ensures c.split_at.ensures.front c.split_at.ensures.back took.takes (search rules),
       filled_then inv.2 took.filled,
     )

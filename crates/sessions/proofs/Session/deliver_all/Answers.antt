@@ -5,7 +5,7 @@ use Rattle.sessions.proofs.Session.deliver_all.Goals as goal
 
 pub loop-asked-preserved : goal.loop-asked-preserved
 loop-asked-preserved c =
-    turn c.loop-asked.invariant (omega arith) c.next_size.ensures c.split_at.ensures.0 c.split_at.ensures.1
+    turn c.loop-asked.invariant (omega arith) c.next_size.ensures c.split_at.ensures.front c.split_at.ensures.back
     c.deliver.ensures.next c.deliver.ensures.leaves (search rules)
 
 pub returns : goal.returns
