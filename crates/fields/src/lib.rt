@@ -5,7 +5,7 @@ ghost use Rattle.std.specs.Prelude.{◌≡◌, ℕ, ◌+◌, ◌*◌, ◌^◌, �
 ghost use Rattle.book.specs.Records.{starts, number, float, read_angles, last};
 ghost use Rattle.fields.specs.Fields.{Holds, two_floats};
 
-use book::{Angles, Gate};
+use book::Angles;
 use heads::{field, number};
 
 // A number has at most so many bytes.
@@ -64,9 +64,9 @@ pub fn angles_field(bytes: &[u8], tag: u8) -> Option<(Angles, &[u8])>
     Some((angles_of(contents), rest))
 }
 
-// The gate, if nothing follows.
-pub fn last(rest: &[u8], gate: Gate) -> Option<Gate>
-    ensures { result ≡ last rest.now gate }
+// This, if nothing follows.
+pub fn last<T: Copy>(rest: &[u8], it: T) -> Option<T>
+    ensures { result ≡ last rest.now it }
 {
-    if rest.is_empty() { Some(gate) } else { None }
+    if rest.is_empty() { Some(it) } else { None }
 }
