@@ -1,16 +1,15 @@
-// What stands behind 04 of a gate that has a control mask, codes 1 to 9: its controls, and what it is fed. Nothing may follow.
+// What stands behind 04 of a gate that has a control mask, codes 1 to 9. Where gates share a code's shape, it is what each is made of. Nothing may follow.
 #![tactic(auto, unfolding(book::specs::Records::listed))]
 
 ghost use Rattle.std.specs.Prelude.{◌≡◌, ℕ, false, MatchOption, option_map};
 ghost use Rattle.book.specs.Records.{plain, angled, eight, starts, read_row};
 ghost use Rattle.book.specs.declared.Angle.{Angle};
-ghost use Rattle.book.specs.declared.Angles.{Angles};
 ghost use Rattle.book.specs.declared.Controls.{Controls};
-ghost use Rattle.book.specs.declared.Gate.{Gate};
+ghost use Rattle.book.specs.declared.Gate.{Gate as AnyGate};
 ghost use Rattle.fields.specs.Fields.{Holds};
 ghost use Rattle.masked.specs.Masks.{mask};
 
-use book::{Angle, Angles, Controls};
+use book::{Angle, Controls, Gate};
 use fields::{angles_field, last, number_field, pair_field};
 
 // Field 05, and what follows it.
@@ -23,7 +22,7 @@ fn mask_field(bytes: &[u8]) -> Option<(Controls, &[u8])>
 
 // Codes 1 to 4: the mask.
 pub fn read_plain(bytes: &[u8]) -> Option<Controls>
-    ensures { (g : ℕ → Controls → Gate) (t : ℕ) → option_map (g t) result ≡ read_row (plain g) t bytes.now }
+    ensures { (g : ℕ → Controls → AnyGate) (t : ℕ) → option_map (g t) result ≡ read_row (plain g) t bytes.now }
 {
     let (controls, rest) = mask_field(bytes)?;
     last(rest, controls)
@@ -31,7 +30,7 @@ pub fn read_plain(bytes: &[u8]) -> Option<Controls>
 
 // Codes 5 to 8: the mask, cosine and sine.
 pub fn read_angled(bytes: &[u8]) -> Option<(Controls, Angle)>
-    ensures { (g : ℕ → Controls → Angle → Gate) (t : ℕ) → option_map (λ p. g t p.0 p.1) result ≡ read_row (angled g) t bytes.now }
+    ensures { (g : ℕ → Controls → Angle → AnyGate) (t : ℕ) → option_map (λ p. g t p.0 p.1) result ≡ read_row (angled g) t bytes.now }
 {
     let (controls, rest) = mask_field(bytes)?;
     let ((cosine, sine), rest) = pair_field(rest, 0x07)?;
@@ -39,10 +38,10 @@ pub fn read_angled(bytes: &[u8]) -> Option<(Controls, Angle)>
 }
 
 // Code 9: the mask, the eight numbers of U.
-pub fn read_u(bytes: &[u8]) -> Option<(Controls, Angles)>
-    ensures { (g : ℕ → Controls → Angles → Gate) (t : ℕ) → option_map (λ p. g t p.0 p.1) result ≡ read_row (eight g) t bytes.now }
+pub fn read_u(bytes: &[u8], target: u8) -> Option<Gate>
+    ensures { result ≡ read_row (eight Gate.U) target bytes.now }
 {
     let (controls, rest) = mask_field(bytes)?;
     let (angles, rest) = angles_field(rest, 0x08)?;
-    last(rest, (controls, angles))
+    last(rest, Gate::U(target, controls, angles))
 }

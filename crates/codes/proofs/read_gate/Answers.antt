@@ -2,7 +2,7 @@
 use mathlib.Core.Path.{◌≡◌, ap, ◌∙◌}
 use Rattle.std.specs.Prelude.{Option, Some, None, MatchOption, option_map, IsSomeAnd}
 use Rattle.std.proofs.Common.{rules}
-use Rattle.book.specs.declared.Gate.TheVariants.{H, X, Y, Z, P, Rx, Ry, Rz, U, Swap, Measure, BitFlip}
+use Rattle.book.specs.declared.Gate.TheVariants.{H, X, Y, Z, P, Rx, Ry, Rz}
 use Rattle.codes.proofs.read_gate.Goals as goal
 
 -- what `map` by a closure leaves, where the closure gives f
@@ -35,15 +35,3 @@ returns-in-7 c = rw c.in-7.is (mapped (λ p. Ry c.args.target p.0 p.1) c.read_an
 
 pub returns-in-8 : goal.returns-in-8
 returns-in-8 c = rw c.in-8.is (mapped (λ p. Rz c.args.target p.0 p.1) c.read_angled-in-8.result _ c.map-in-8.ensures.cases (λ x y q. search rules) ∙ c.read_angled-in-8.ensures Rz c.args.target)
-
-pub returns-in-9 : goal.returns-in-9
-returns-in-9 c = rw c.in-9.is (mapped (λ p. U c.args.target p.0 p.1) c.read_u.result _ c.map-in-9.ensures.cases (λ x y q. search rules) ∙ c.read_u.ensures U c.args.target)
-
-pub returns-in-10 : goal.returns-in-10
-returns-in-10 c = rw c.in-10.is (mapped (Swap c.args.target) c.read_swap.result _ c.map-in-10.ensures.cases (λ x y q. search rules) ∙ c.read_swap.ensures Swap c.args.target)
-
-pub returns-in-11 : goal.returns-in-11
-returns-in-11 c = rw c.in-11.is (mapped (Measure c.args.target) c.read_measure.result _ c.map-in-11.ensures.cases (λ x y q. search rules) ∙ c.read_measure.ensures Measure c.args.target)
-
-pub returns-in-12 : goal.returns-in-12
-returns-in-12 c = rw c.in-12.is (mapped (BitFlip c.args.target) c.read_flip.result _ c.map-in-12.ensures.cases (λ x y q. search rules) ∙ c.read_flip.ensures BitFlip c.args.target)
