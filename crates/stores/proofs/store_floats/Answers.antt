@@ -1,8 +1,6 @@
 -- `stores::store_floats` stores floats as their bits, one after the other. Assumes nothing.
 use native.Mathlib.Omega.{arith}
-use mathlib.Core.Path.{◌∙◌}
-use lib.Ieee.{nan, binary64}
-use lib.Ieee.Bits.{to_bits-lt}
+use lib.Ieee.{nan}
 use Rattle.stores.proofs.Stored.{stored_float, stored_none, passed}
 use Rattle.stores.proofs.store_floats.Goals as goal
 

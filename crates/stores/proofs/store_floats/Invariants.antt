@@ -1,5 +1,4 @@
 -- `stores::store_floats` stores floats as their bits, one after the other. The loop's invariant: those passed are stored. Assumes nothing.
-use Prim.Native.Nat.{◌≤◌}
 use mathlib.Core.Path.{◌≡◌}
 use lib.ListN.{length, take}
 use Rattle.book.specs.Records.{floats}
