@@ -1,7 +1,7 @@
 -- `feeding::fill` meets its contract: an answer's own number is small, so that it and the count fit one; and a full list keeps what it has. Assumes nothing.
 use Prim.Native.Nat.{ℕ, ◌+◌, ◌*◌}
 use mathlib.Core.List.{List}
-use mathlib.Core.Path.{◌≡◌, sym, ap, subst}
+use mathlib.Core.Path.{◌≡◌, sym, ap₂, subst}
 use Rattle.book.specs.Answers.{replies}
 use Rattle.book.specs.declared.Reply.{Reply}
 use Rattle.feeding.specs.Feeding.{told_of, Filled}
@@ -26,7 +26,7 @@ returns-then-filled-answers c =
     let reply = c.in-Some.reply in
     told_is reply a.answers.now a.filled a.count c.in-Some.is
     (filled_one a.answers.now a.filled (record { says = replies reply; count = a.count }) c.if-filled-answers.true
-    (ap (λ (n : ℕ). n * 65536 + a.count) c.tell_reply.ensures))
+    (ap₂ (λ (n k : ℕ). n * 65536 + k) c.tell_reply.ensures c.from.ensures))
 
 pub returns : goal.returns
 returns c =

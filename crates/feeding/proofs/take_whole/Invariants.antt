@@ -9,11 +9,11 @@ use Rattle.feeding.proofs.Loop.{Left}
 use Rattle.feeding.proofs.take_whole.Given as goal
 
 abbrev pub invariant-loop-rest : goal.invariant-loop-rest
-invariant-loop-rest l =
+invariant-loop-rest g l =
     (t : List Answered)
     × Left (form (meant l.initial.session) l.initial.kept l.initial.held) (buffers l.initial.reals l.initial.imags) l.piece l.rest t
     (form (meant l.session) l.kept l.held) (buffers l.reals l.imags)
     × Filled l.initial.answers l.initial.filled t l.filled l.answers
 
 abbrev pub decreases-loop-rest : goal.decreases-loop-rest
-decreases-loop-rest l = length l.rest
+decreases-loop-rest g l = length l.rest

@@ -7,10 +7,10 @@ use Rattle.feeding.proofs.Numbers.{filled_none, filled_then}
 use Rattle.feeding.proofs.Feed.take_all.Goals as goal
 
 pub loop-asked-init : goal.loop-asked-init
-loop-asked-init c = ([], no_pieces _ _ _ _, filled_none _ _ (omega arith))
+loop-asked-init g c = ([], no_pieces _ _ _ _, filled_none _ _ (omega arith))
 
 pub loop-asked-preserved : goal.loop-asked-preserved
-loop-asked-preserved c = let inv = c.loop-asked.invariant in
+loop-asked-preserved g c = let inv = c.loop-asked.invariant in
     let took = c.take_whole-filling.ensures in (
       inv.0 ++ _,
       next_piece inv.1 (omega arith) c.next_size.ensures c.split_at.ensures.front c.split_at.ensures.back took.takes (search rules),

@@ -8,7 +8,7 @@ use Rattle.feeding.proofs.Loop.{Pieces}
 use Rattle.feeding.proofs.Feed.take_all.Given as goal
 
 abbrev pub invariant-loop-asked : goal.invariant-loop-asked
-invariant-loop-asked l =
+invariant-loop-asked g l =
     (t : List Answered)
     × Pieces l.bytes l.lengths (form (meant l.initial.filling.session) l.initial.filling.kept l.initial.held)
     (buffers l.initial.reals l.initial.imags) l.rest l.asked-index t

@@ -4,9 +4,9 @@ use Rattle.once.proofs.Loop.{turn, ends}
 use Rattle.sessions.proofs.Session.deliver_all.Goals as goal
 
 pub loop-asked-preserved : goal.loop-asked-preserved
-loop-asked-preserved c =
+loop-asked-preserved g c =
     turn c.loop-asked.invariant (omega arith) c.next_size.ensures c.split_at.ensures.front c.split_at.ensures.back
     c.deliver.ensures.next c.deliver.ensures.leaves (search rules)
 
 pub returns : goal.returns
-returns c = ends c.loop-asked.invariant (omega arith)
+returns g c = ends c.loop-asked.invariant (omega arith)

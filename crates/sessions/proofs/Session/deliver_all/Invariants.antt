@@ -6,6 +6,6 @@ use Rattle.sessions.specs.Deliveries.{meant}
 use Rattle.sessions.proofs.Session.deliver_all.Given as goal
 
 abbrev pub invariant-loop-asked : goal.invariant-loop-asked
-invariant-loop-asked l =
+invariant-loop-asked g l =
     Left l.bytes l.lengths (bench (meant l.initial.session) (buffers l.initial.reals l.initial.imags)) l.rest l.asked-index
     (bench (meant l.session) (buffers l.reals l.imags))
