@@ -6,7 +6,7 @@ ghost use Rattle.once.specs.AllOnce.{cut, AllOnce};
 ghost use Rattle.sessions.specs.Deliveries.{meant};
 ghost use Rattle.c_api.specs.Tells.{TellsStart, TellsDelivery};
 
-use act::FAST;
+use act::Fast;
 use answers::{TAKEN, tell_reply};
 use keeping::{begin, count_in, keep, value_in};
 use once::next_size;
@@ -49,7 +49,7 @@ pub extern "C" fn gate_bench_deliver(
 ) -> u32
     ensures { TellsDelivery session.old (before reals imags) bytes.now result session.new (after reals imags) }
 {
-    let delivered = session_in(session).deliver(FAST, bytes, reals, imags);
+    let delivered = session_in(session).deliver::<Fast>(bytes, reals, imags);
     let next = delivered.next;
     keep(session, next.count, next.value, next.mark);
     tell_reply(delivered.reply)

@@ -5,7 +5,7 @@ ghost use Rattle.feeding.specs.Feeding.{told_of};
 ghost use Rattle.c_api.specs.Tells.{fed_number, words, TellsFeed};
 
 use crate::deliveries::session_in;
-use act::FAST;
+use act::Fast;
 use answers::tell_reply;
 use book::Reply;
 use feeding::take_piece;
@@ -50,7 +50,7 @@ pub extern "C" fn gate_bench_feed(
     ensures { TellsFeed (words session.old kept.old held.old) (before reals imags) piece.now
         result used.new (words session.new kept.new held.new) (after reals imags) }
 {
-    let fed = take_piece(FAST, session_in(session), *kept, held, piece, reals, imags);
+    let fed = take_piece::<Fast>(session_in(session), *kept, held, piece, reals, imags);
     let next = fed.session;
     keep(session, next.count, next.value, next.mark);
     *kept = fed.kept;
