@@ -49,15 +49,9 @@ fn by_twos<R: Rule>(
         let next = i + stride;
         let p = read_pair(reals, imags, i, i + d);
         let q = read_pair(reals, imags, next, next + d);
-        write_two(
-            reals,
-            imags,
-            i,
-            i + d,
-            stride,
-            rule.put(p),
-            rule.put(q),
-        );
+        let v = rule.put(p);
+        let w = rule.put(q);
+        write_two(reals, imags, i, i + d, stride, v, w);
         i += stride * 2;
     }
 }
