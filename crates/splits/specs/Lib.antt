@@ -1,2 +1,2 @@
--- What the rules of P, RZ and U ask of upper parts.
+-- What U's rule asks of upper parts.
 pub mod Splits
