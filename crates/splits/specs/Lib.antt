@@ -1,2 +1,3 @@
--- What U's rule asks of upper parts.
+-- What U's rule asks of upper parts, and that it is known in one way.
 pub mod Splits
+pub mod Unique
