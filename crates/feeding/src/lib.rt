@@ -9,7 +9,7 @@ ghost use Rattle.feeding.specs.Feeding.{form, form_of, rest_in, cuts, told_of, J
 
 use answers::tell_reply;
 use book::Reply;
-use gathering::{Due, STOPPED, gather};
+use gathering::{Due, Gathered, STOPPED, gather};
 use once::next_size;
 use sessions::Session;
 use words::add;
@@ -22,19 +22,12 @@ pub struct Feed {
     pub held: [u8; 97],
 }
 
-// What a call tells: nothing, or what its delivery was answered.
-#[derive(Clone, Copy)]
-pub enum Told {
-    Nothing,
-    Reply(Reply),
-}
-
-// A call hands back the next form, how many bytes of the piece it used, and what it tells. The bytes behind those are for the next call.
+// A call hands back the next form, how many bytes of the piece it used, and what its delivery was answered, if it made one. The bytes behind those are for the next call.
 #[derive(Clone, Copy)]
 pub struct Taken {
     pub next: Feed,
     pub used: usize,
-    pub told: Told,
+    pub told: Option<Reply>,
 }
 
 // The same for a caller who keeps the 97 bytes.
@@ -43,7 +36,7 @@ pub struct Stepped {
     pub session: Session,
     pub kept: u32,
     pub used: usize,
-    pub told: Told,
+    pub told: Option<Reply>,
 }
 
 // The delivery of a frame's contents, which used so many bytes of the piece. Behind a frame nothing is kept.
@@ -58,13 +51,11 @@ fn make(
     ensures { Makes (meant session) (before reals imags) contents.now used result (after reals imags) }
 {
     let delivered = session.deliver(engine, contents, reals, imags);
-    let next = delivered.next;
-    let reply = delivered.reply;
     Stepped {
-        session: next,
+        session: delivered.next,
         kept: 0,
         used,
-        told: Told::Reply(reply),
+        told: Some(delivered.reply),
     }
 }
 
@@ -101,10 +92,11 @@ pub fn take_piece(
     ensures { Takes (form (meant session) kept held.old) (before reals imags) piece.now result.used
         (told_of result.told result.session.count) (form (meant result.session) result.kept held.new) (after reals imags) }
 {
-    let gathered = gather(held, kept, piece);
-    let used = gathered.used;
-    let next = gathered.kept;
-    let due = gathered.due;
+    let Gathered {
+        used,
+        kept: next,
+        due,
+    } = gather(held, kept, piece);
     match due {
         Due::Nothing => {
             if next < STOPPED {
@@ -114,7 +106,7 @@ pub fn take_piece(
                 session,
                 kept: next,
                 used,
-                told: Told::Nothing,
+                told: None,
             }
         }
         Due::Frame(len) => {
@@ -145,15 +137,15 @@ struct Filling {
 }
 
 // What was told goes into the list as one number, where it has room.
-fn fill(told: Told, count: u16, filled: usize, answers: &mut [u32]) -> usize
+fn fill(told: Option<Reply>, count: u16, filled: usize, answers: &mut [u32]) -> usize
     requires { filled ≤ length answers.old }
     ensures { Filled answers.old filled (told_of told count) result answers.new }
 {
-    let Told::Reply(reply) = told else {
+    let Some(reply) = told else {
         return filled;
     };
     if filled < answers.len() {
-        answers[filled] = tell_reply(reply) * 65536 + count as u32;
+        answers[filled] = tell_reply(reply) * 65536 + u32::from(count);
         return filled + 1;
     }
     filled
@@ -177,15 +169,13 @@ fn take_whole(
     let mut session = from.session;
     let mut kept = from.kept;
     let mut filled = from.filled;
-    let mut at: usize = 0;
-    while at < piece.len() {
-        let fed = take_piece(engine, session, kept, held, &piece[at..], reals, imags);
-        let next = fed.session;
-        let told = fed.told;
-        filled = fill(told, next.count, filled, answers);
-        session = next;
+    let mut rest = piece;
+    while !rest.is_empty() {
+        let fed = take_piece(engine, session, kept, held, rest, reals, imags);
+        session = fed.session;
         kept = fed.kept;
-        at += fed.used;
+        filled = fill(fed.told, session.count, filled, answers);
+        rest = &rest[fed.used..];
     }
     Filling {
         session,
@@ -211,19 +201,23 @@ impl Feed {
             (form_of result.next) (after reals imags) }
     {
         let mut held = self.held;
-        let session = self.session;
-        let fed = take_piece(engine, session, self.kept, &mut held, piece, reals, imags);
-        let after = fed.session;
-        let told = fed.told;
-        let next = Feed {
-            session: after,
-            kept: fed.kept,
-            held,
-        };
+        let fed = take_piece(
+            engine,
+            self.session,
+            self.kept,
+            &mut held,
+            piece,
+            reals,
+            imags,
+        );
         Taken {
-            next,
+            next: Feed {
+                session: fed.session,
+                kept: fed.kept,
+                held,
+            },
             used: fed.used,
-            told,
+            told: fed.told,
         }
     }
 
@@ -249,32 +243,19 @@ impl Feed {
             answers.old answers.new (form_of result) (after reals imags) }
     {
         let mut held = self.held;
-        let start = self.session;
         let mut filling = Filling {
-            session: start,
+            session: self.session,
             kept: self.kept,
             filled: 0,
         };
-        let mut at: usize = 0;
-        let mut i: usize = 0;
-        while i < lengths.len() {
-            let size = next_size(lengths[i], bytes.len() - at);
-            let end = at + size;
-            filling = take_whole(
-                engine,
-                filling,
-                &mut held,
-                &bytes[at..end],
-                answers,
-                reals,
-                imags,
-            );
-            at = end;
-            i += 1;
+        let mut rest = bytes;
+        for asked in lengths {
+            let (piece, behind) = rest.split_at(next_size(*asked, rest.len()));
+            filling = take_whole(engine, filling, &mut held, piece, answers, reals, imags);
+            rest = behind;
         }
-        let session = filling.session;
         Feed {
-            session,
+            session: filling.session,
             kept: filling.kept,
             held,
         }

@@ -1,9 +1,8 @@
-// F of three ordinary numbers, in whole numbers: two of them are multiplied exactly, into two limbs (wide), and the third is added in one unit, where digits
+// F of three ordinary numbers, in whole numbers: two of them are multiplied exactly, into 128 digits, and the third is added in one unit, where digits
 // that cannot count are cut off (sum). The answer is rounded and packed once, by rounding::pack.
 #![tactic(auto)]
 
 mod sum;
-mod wide;
 
 ghost use Rattle.std.specs.Prelude.{◌≡◌};
 ghost use Rattle.std.specs.Float.{binary64};

@@ -104,11 +104,11 @@ returns-else-used-end c =
     let a = c.args in
     let g = c.gather-gathered in
     let len = c.in-Frame.len in
-    let None =
+    let bare =
     none_held (rest_of a.held.now a.kept) a.piece.now (whole a.held.now a.kept a.piece.now g.ensures c.in-Frame.is)
     (rw g.ensures.used at c.if-used-end.false) in
     let same : 3 + len - 3 ≡ len = omega arith in
-    let here = ap (λ (n : ℕ). take n (drop 3 a.piece.now)) same ∙ ap (λ (h : List ℕ). take len (drop 3 (h ++ a.piece.now))) (sym None) in
+    let here = ap (λ (n : ℕ). take n (drop 3 a.piece.now)) same ∙ ap (λ (h : List ℕ). take len (drop 3 (h ++ a.piece.now))) (sym bare) in
     search (made a.held.now a.kept a.piece.now (ap Some here ∙ due_at a.held.now a.kept a.piece.now g.ensures c.in-Frame.is) g.ensures.used c.make.ensures)
 
 pub returns-in-TooLong : goal.returns-in-TooLong
