@@ -33,34 +33,30 @@ module _ (n t u : ℕ) (b : Buffers) (order : t ≤ u) where
     pub swap_seated : Seated n u uncontrolled b
     swap_seated = free_seated n u b [] (passed j)
 
-    done : {b' : Buffers} → b' ≡ swapped n t u b → Does (swap_of n t u b) (Ok None) b'
-    done = works (size_tests n b) b (swap_call n t u b) (judged j) refl
+    pub swap_done : {b' : Buffers} → b' ≡ swapped n t u b → Does (swap_of n t u b) (Ok None) b'
+    swap_done = works (size_tests n b) b (swap_call n t u b) (judged j) refl
 
     pub swap_itself : t ≡ u → Does (swap_of n t u b) (Ok None) b
-    swap_itself h = done (swapped_itself n t u b swap_seated.reals swap_seated.imags h)
+    swap_itself h = swap_done (swapped_itself n t u b swap_seated.reals swap_seated.imags h)
 
-    low_is : shl t ≡ 2 ^ t
-    low_is = shl_is t (omega (arith, order, swap_seated.qubit, swap_seated.fits))
+-- ---- what a sweep asks and leaves
 
-    high_is : shl u ≡ 2 ^ u
-    high_is = shl_is u (omega (arith, swap_seated.qubit, swap_seated.fits))
+module _ {n u : ℕ} {b : Buffers} (ok : Seated n u uncontrolled b) (t : ℕ) (less : t < u) where
+  low_is : shl t ≡ 2 ^ t
+  low_is = shl_is t (omega (arith, ok.qubit, ok.fits))
 
-    pub swap_small : shl t + shl u < 2 ^ 26
-    swap_small =
-        let ok = swap_seated in
-        omega (arith, low_is, high_is, pow_le t 24 (omega (arith, order, ok.qubit, ok.fits)), pow_le u 24 (omega (arith, ok.qubit, ok.fits)))
+  high_is : shl u ≡ 2 ^ u
+  high_is = shl_is u (omega (arith, ok.qubit, ok.fits))
 
-    module _ (ne : t ≡ u → ⊥) where
-      less : t < u
-      less = omega (arith, order)
+  pub swap_small : shl t + shl u < 2 ^ 26
+  swap_small =
+      omega (arith, low_is, high_is, pow_le t 24 (omega (arith, ok.qubit, ok.fits)), pow_le u 24 (omega (arith, ok.qubit, ok.fits)))
 
-      pub swap_asks : Keyed n (shl t + shl u) (shl u) (shl t) b
-      swap_asks = let ok = swap_seated in rw (low_is, high_is) (swap_keyed t u less ok.some ok.fits ok.reals ok.imags ok.qubit)
+  pub swap_asks : Keyed n (shl t + shl u) (shl u) (shl t) b
+  swap_asks = rw (low_is, high_is) (swap_keyed t u less ok.some ok.fits ok.reals ok.imags ok.qubit)
 
-      pub swap_swept : {b' : Buffers} → Swept x_rule n (shl t + shl u) (shl u) (shl t) b b' → Does (swap_of n t u b) (Ok None) b'
-      swap_swept w =
-          let ok = swap_seated in
-          done (swept_swap t u less ok.some ok.fits ok.reals ok.imags ok.qubit (rw (low_is, high_is) at w))
+  pub swap_swept : {b' : Buffers} → Swept x_rule n (shl t + shl u) (shl u) (shl t) b b' → b' ≡ swapped n t u b
+  swap_swept w = swept_swap t u less ok.some ok.fits ok.reals ok.imags ok.qubit (rw (low_is, high_is) at w)
 
 -- ---- the order of the qubits
 
