@@ -57,8 +57,8 @@ fn put_state(out: &mut [u8], at: usize, reals: &[f64], imags: &[f64]) -> usize
     ensures { Put (state_lines 0 reals.now imags.now) out.old at result out.new }
 {
     let mut next = at;
-    for (place, (re, im)) in reals.iter().zip(imags).enumerate() {
-        next = put_place(out, next, place as u64, *re, *im);
+    for place in 0..reals.len().min(imags.len()) {
+        next = put_place(out, next, place as u64, reals[place], imags[place]);
     }
     next
 }
