@@ -14,7 +14,7 @@ use lib.Ieee.Fits.{up_pos}
 use lib.Ieee.Bits.{of_bits-to_bits}
 use lib.Ieee.Exact.{HasValue, odd_sign}
 use lib.Ieee.Scale.{finite}
-use Rattle.operands.specs.Operands.{is_zero, ordinary, Unpacked}
+use Rattle.operands.specs.Operands.{is_zero, ordinary}
 
 -- ---- the tests
 pub zero_is : of_bits binary64 0 ≡ fin false 0 (pos 0)
@@ -129,20 +129,6 @@ some m t = go (eq-zero-or-pos m)
     go (inl e) = absurd (subst (λ (b : Bool). T (not b)) (eq-eqb m 0 e) t)
     go (inr l) = l
 
--- ---- an operand that was taken apart: it is ordinary where m is not 0
-pub was_ordinary : {f : Format} {x : Float} {s : Bool} {m e : ℕ} → Unpacked f x s m e → (m ≡ 0 → ⊥) → T (ordinary x)
-was_ordinary {f} {x} {s} {m} u h = go (ordinary x) u.none
-  where
-    go : (b : Bool) → (T (not b) → m ≡ 0) → T b
-    go true k = tt
-    go false k = absurd (h (k tt))
-
-pub not_ordinary : {f : Format} {x : Float} {s : Bool} {m e : ℕ} → Unpacked f x s m e → m ≡ 0 → T (ordinary x) → ⊥
-not_ordinary {f} {x} {s} {m} u z o = no m z (u.fields o).some
-  where
-    no : (m : ℕ) → m ≡ 0 → 0 < m → ⊥
-    no m e h = omega arith
-
 pub never : (b : Bool) → T (not b) → T b → ⊥
 never true n h = n
 never false n h = h
@@ -153,13 +139,3 @@ yes e h = subst T (sym h ∙ e) tt
 
 pub no : {r b : Bool} → r ≡ b → r ≡ false → T (not b)
 no e h = subst (λ (x : Bool). T (not x)) (sym h ∙ e) tt
-
-pub not_yes : {r b : Bool} → r ≡ b → not r ≡ true → T (not b)
-not_yes e h = subst T (sym h ∙ ap not e) tt
-
-pub not_no : {r b : Bool} → r ≡ b → not r ≡ false → T b
-not_no {r} {b} e h = go b (sym (ap not e) ∙ h)
-  where
-    go : (b : Bool) → not b ≡ false → T b
-    go true h = tt
-    go false h = absurd (true≢false h)
