@@ -44,9 +44,7 @@ pub fn clear_row(reals: &mut [f64], imags: &mut [f64], from: usize, side: usize)
     requires { Holds (from + side) (here reals imags) }
     ensures { Filled from side (λ j. amplitude nought nought) (before reals imags) (after reals imags) }
 {
-    let mut j = 0;
-    while j < side {
+    for j in 0..side {
         write_at(reals, imags, from + j, Amplitude { re: 0.0, im: 0.0 });
-        j += 1;
     }
 }

@@ -1,9 +1,7 @@
 -- `summands::clear_row` meets its contract: one place more is filled in each turn. Assumes nothing.
 use mathlib.Core.Path.{refl}
-use native.Mathlib.Omega.{arith}
-use Rattle.matrices.proofs.Fills.{zero_is}
-use Rattle.matrices.proofs.Fills.{one_more}
+use Rattle.matrices.proofs.Fills.{zero_is, one_more}
 use Rattle.summands.proofs.clear_row.Goals as goal
 
 pub loop-j-preserved : goal.loop-j-preserved
-loop-j-preserved c = (omega arith, one_more refl c.loop-j.invariant.1 c.write_at.ensures zero_is)
+loop-j-preserved c = one_more refl c.loop-j.invariant c.write_at.ensures zero_is

@@ -1,5 +1,4 @@
 -- `summands::clear_row` meets its contract: one place more is filled in each turn. Assumes nothing.
-use Prim.Native.Nat.{◌-◌, ◌≤◌}
 use Rattle.book.specs.Answers.{buffers}
 use Rattle.book.specs.Gates.{nought}
 use Rattle.book.specs.State.{amplitude}
@@ -7,7 +6,4 @@ use Rattle.matrices.specs.Filled.{Filled}
 use Rattle.summands.proofs.clear_row.Given as goal
 
 abbrev pub invariant-loop-j : goal.invariant-loop-j
-invariant-loop-j l = (l.j ≤ l.side) × Filled l.from l.j (λ k. amplitude nought nought) (buffers l.initial.reals l.initial.imags) (buffers l.reals l.imags)
-
-abbrev pub decreases-loop-j : goal.decreases-loop-j
-decreases-loop-j l = l.side - l.j
+invariant-loop-j l = Filled l.from l.j (λ k. amplitude nought nought) (buffers l.initial.reals l.initial.imags) (buffers l.reals l.imags)
