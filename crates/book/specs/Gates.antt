@@ -1,6 +1,7 @@
 -- The rule of each gate on the pair (a,b) at s0 and (c,d) at s1, operation for operation. Definitions only. Assumes nothing.
 -- Each sum, difference and product rounds once, in the order written; a minus before a letter is an exact change of sign and binds first.
-use Rattle.std.specs.Prelude.{ℕ, List, [], ◌∷◌, Bool, true, false, not, ◌&&◌, Float, pos, get_or}
+use Rattle.std.specs.Prelude.{ℕ, List, [], ◌∷◌, Bool, false, not, Float, pos, get_or}
+use Rattle.std.specs.List.{list_all}
 use Rattle.std.specs.Float.Ieee as Ieee
 use Rattle.std.specs.Float.{fin, nan, binary64}
 use Rattle.std.specs.Float.Ieee.Scale.{finite}
@@ -155,8 +156,7 @@ abbrev pub noise_of : Noise → List Float
 noise_of noise = noise.prob ∷ noise.draw ∷ []
 
 abbrev pub all_finite : List Float → Bool
-all_finite [] = true
-all_finite (x ∷ xs) = finite x && all_finite xs
+all_finite = list_all finite
 
 -- 6: a supplied number is NaN or infinite
 abbrev pub finite_tests : List Float → List Test

@@ -1,8 +1,9 @@
 // The values that document 01 speaks of: amplitudes, gates, records, and the answers of the calls. A session's are in the crate sessions, with its methods.
-// Types, and the one place that makes controls: what they mean is in specs/, in 01's order.
+// Types, the one place that makes controls, and the numbers of the refusals: what they mean is in specs/, in 01's order.
 #![tactic(auto)]
 
 ghost use Rattle.std.specs.Prelude.{◌≡◌};
+ghost use Rattle.book.specs.Answers.{number_of};
 ghost use Rattle.book.specs.State.{controlled};
 
 // n is 1 to 24 for kernels and sessions.
@@ -141,6 +142,28 @@ pub enum Refusal {
     Early,
     Full,
     Room,
+}
+
+// Their numbers.
+impl From<Refusal> for u32 {
+    ghost from_gives = { λ refusal k. k ≡ number_of refusal };
+
+    fn from(refusal: Refusal) -> u32 {
+        match refusal {
+            Refusal::Size => 1,
+            Refusal::Length => 2,
+            Refusal::Qubit => 3,
+            Refusal::Same => 4,
+            Refusal::Form => 5,
+            Refusal::Number => 6,
+            Refusal::Chance => 7,
+            Refusal::Record => 8,
+            Refusal::Session => 9,
+            Refusal::Early => 10,
+            Refusal::Full => 11,
+            Refusal::Room => 12,
+        }
+    }
 }
 
 // What a kernel, a measurement or a matrix call answers: a value or none, or a refusal.

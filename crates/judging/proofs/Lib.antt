@@ -1,3 +1,2 @@
--- Finite: the test of a list. Refusals: tests 1 and 2 from their numbers.
-pub mod Finite
+-- Refusals: tests 1 and 2 from their numbers.
 pub mod Refusals

@@ -8,15 +8,15 @@ ghost use Rattle.std.specs.Prelude.{◌≡◌, ◌++◌};
 ghost use Rattle.book.specs.Gates.{all_finite, finite_tests};
 ghost use Rattle.book.specs.Kernels.{size_tests};
 ghost use Rattle.book.specs.Lent.{shown};
-ghost use Rattle.seated.specs.Judging.{Judges, first_of, free_tests};
+ghost use Rattle.seated.specs.Judging.{Judges, free_tests};
 
-use book::{ANY, Answer, Controls, Refusal};
+use book::{ANY, Controls, Refusal};
 use operands::is_finite;
 pub use seats::seat;
 pub use sized::size;
 
 // The seat of a gate that takes no control mask: 1 to 3.
-pub fn free_seat(reals: &[f64], imags: &[f64], n: u32, target: u32) -> Answer
+pub fn free_seat(reals: &[f64], imags: &[f64], n: u32, target: u32) -> Result<(), Refusal>
     ensures { Judges (size_tests n (shown reals imags) ++ free_tests n target) result }
 {
     seat(reals, imags, n, target, Controls::of(0), ANY)
@@ -26,33 +26,15 @@ pub fn free_seat(reals: &[f64], imags: &[f64], n: u32, target: u32) -> Answer
 pub fn all_finite(numbers: &[f64]) -> bool
     ensures { result ≡ all_finite numbers.now }
 {
-    let mut i = 0;
-    while i < numbers.len() {
-        if !is_finite(numbers[i]) {
-            return false;
-        }
-        i += 1;
-    }
-    true
+    numbers.iter().all(|x| is_finite(*x))
 }
 
 // Test 6 of the numbers that a gate is fed.
-pub fn numbers(fed: &[f64]) -> Answer
+pub fn numbers(fed: &[f64]) -> Result<(), Refusal>
     ensures { Judges (finite_tests fed.now) result }
 {
     if all_finite(fed) {
-        return Answer::Taken;
+        return Ok(());
     }
-    Answer::Refused(Refusal::Number)
-}
-
-// The first refusal of two answers: a call's seat, and then its own tests.
-pub fn then(seat: Answer, own: Answer) -> Answer
-    ensures { result ≡ first_of seat own }
-{
-    match seat {
-        Answer::Taken => own,
-        Answer::Value(_) => seat,
-        Answer::Refused(_) => seat,
-    }
+    Err(Refusal::Number)
 }

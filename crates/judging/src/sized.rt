@@ -3,18 +3,18 @@ ghost use Rattle.book.specs.Kernels.{size_tests};
 ghost use Rattle.book.specs.Lent.{shown};
 ghost use Rattle.seated.specs.Judging.{Judges};
 
-use book::{Answer, MOST_QUBITS, Refusal};
+use book::{MOST_QUBITS, Refusal};
 use sizes::{bad_length, bad_size};
 
 // n is 1 to 24, and both buffers have 2^n places.
-pub fn size(reals: &[f64], imags: &[f64], n: u32) -> Answer
+pub fn size(reals: &[f64], imags: &[f64], n: u32) -> Result<(), Refusal>
     ensures { Judges (size_tests n (shown reals imags)) result }
 {
     if bad_size(n, MOST_QUBITS) {
-        return Answer::Refused(Refusal::Size);
+        return Err(Refusal::Size);
     }
     if bad_length(reals, imags, 1 << n) {
-        return Answer::Refused(Refusal::Length);
+        return Err(Refusal::Length);
     }
-    Answer::Taken
+    Ok(())
 }

@@ -1,81 +1,74 @@
 -- A call after its judge: one that passed does its work, and another keeps what was there; and one list of tests judged behind another. Assumes nothing.
-use Prim.Native.Nat.{ℕ, zero, suc}
+use Prim.Native.Nat.{ℕ, zero, suc, ◌<◌}
 use mathlib.Core.List.{List, [], ◌++◌, append_assoc}
-use mathlib.Core.Path.{◌≡◌, refl, sym, ap, ◌∙◌, subst}
+use mathlib.Core.Path.{◌≡◌, refl, sym, ◌∙◌, subst}
 use native.Mathlib.Omega.{arith}
 use lib.Dec.{T}
+use Rattle.std.specs.Prelude.{Ok, Err}
+use Rattle.book.proofs.Calls.{refuses, takes}
 use Rattle.book.proofs.Refusals.{numbered, first_clear, first_stays}
-use Rattle.book.specs.Answers.{taken, says, Test, first, Buffers, Call, accepted, unless, outcome_of, Does}
-use Rattle.book.specs.declared.Answer.{Answer}
-use Rattle.book.specs.declared.Answer.TheVariants.{Taken, Value, Refused}
-use Rattle.seated.specs.Judging.{verdict, Judges, first_of}
+use Rattle.book.specs.Answers.{number_of, Answer, says, Test, first, Buffers, Call, accepted, outcome_of, Does}
+use Rattle.book.specs.declared.Refusal.{Refusal}
+use Rattle.book.specs.declared.Refusal.TheVariants.{Size, Length, Qubit, Same, Form, Number, Chance, Record, Session, Early, Full, Room}
+use Rattle.seated.specs.Judging.{Ruling, Judges}
 
--- ---- a verdict and its number
+-- no refusal has the number 0
+some_number : (r : Refusal) → 0 < number_of r
+some_number Size = omega arith
+some_number Length = omega arith
+some_number Qubit = omega arith
+some_number Same = omega arith
+some_number Form = omega arith
+some_number Number = omega arith
+some_number Chance = omega arith
+some_number Record = omega arith
+some_number Session = omega arith
+some_number Early = omega arith
+some_number Full = omega arith
+some_number Room = omega arith
 
-none_is : (k : ℕ) → taken ≡ verdict k → k ≡ 0
-none_is zero e = refl
-none_is (suc k) e = absurd (let z : ◌≡◌ {A = ℕ} 0 1 = (cc) in omega arith)
+-- a list of tests that let a call pass
+pub passed : {ts : List Test} {u : Unit} → Judges ts (Ok u) → first ts ≡ 0
+passed j = sym j.is
 
-pub passed : {ts : List Test} {r : Answer} → Judges ts r → r ≡ Taken → first ts ≡ 0
-passed {ts} j e = none_is (first ts) (ap says (sym e) ∙ j.is)
+-- no test
+pub none_judged : Judges [] (Ok tt)
+unfolding first
+none_judged = record { is = refl }
 
 -- ---- one list of tests behind another
 
 module _ (ts us : List Test) (w : T (numbered ts)) where
-  pub judged_behind : {r r' : Answer} → Judges ts r → r ≡ Taken → Judges us r' → Judges (ts ++ us) r'
-  judged_behind j e j' = record { is = j'.is ∙ ap verdict (sym (first_clear ts us w (passed j e))) }
+  pub judged_behind : {u : Unit} {r : Ruling} → Judges ts (Ok u) → Judges us r → Judges (ts ++ us) r
+  judged_behind j j' = record { is = j'.is ∙ sym (first_clear ts us w (passed j)) }
 
-  stays : (r : Answer) → Judges ts r → (k : ℕ) → first ts ≡ k → (says r ≡ taken → ⊥) → Judges (ts ++ us) r
-  stays r j zero f other = absurd (other (j.is ∙ ap verdict f))
-  stays r j (suc k) f other = record { is = j.is ∙ ap verdict (f ∙ sym (first_stays ts us f)) }
-
-  -- an answer that is not Taken stays, whatever follows
-  pub judged_stays : {r : Answer} → Judges ts r → (r ≡ Taken → ⊥) → Judges (ts ++ us) r
-  judged_stays {r} j h = stays r j (first ts) refl (by r h)
+  -- what is refused stays so, whatever follows
+  pub judged_stays : {r : Refusal} → Judges ts (Err r) → Judges (ts ++ us) (Err r)
+  judged_stays {r} j = by (first ts) refl
     where
-      by : (r : Answer) → (r ≡ Taken → ⊥) → says r ≡ taken → ⊥
-      by Taken h e = h refl
-      by (Value v) h e = let z : ◌≡◌ {A = ℕ} 0 1 = (cc) in omega arith
-      by (Refused q) h e = let z : ◌≡◌ {A = ℕ} 0 1 = (cc) in omega arith
+      by : (k : ℕ) → first ts ≡ k → Judges (ts ++ us) (Err r)
+      by zero e = absurd (omega (arith, some_number r, j.is))
+      by (suc k) e = record { is = j.is ∙ e ∙ sym (first_stays ts us e) }
 
-  pub judged_then : {r r' : Answer} → Judges ts r → Judges us r' → Judges (ts ++ us) (first_of r r')
-  judged_then {r} {r'} j j' = by r j
-    where
-      by : (r : Answer) → Judges ts r → Judges (ts ++ us) (first_of r r')
-      by Taken j = judged_behind j refl j'
-      by (Value v) j = stays (Value v) j (first ts) refl (λ e. let z : ◌≡◌ {A = ℕ} 0 1 = (cc) in omega arith)
-      by (Refused q) j = stays (Refused q) j (first ts) refl (λ e. let z : ◌≡◌ {A = ℕ} 0 1 = (cc) in omega arith)
+-- a call's seat is judged, and then its own tests
+module _ (sizes seat own : List Test) (w : T (numbered (sizes ++ seat))) where
+  regroup : {r : Ruling} → Judges ((sizes ++ seat) ++ own) r → Judges (sizes ++ (seat ++ own)) r
+  regroup {r} = subst (λ (ts : List Test). Judges ts r) (append_assoc sizes seat own)
 
--- a call's seat was judged, and then its own tests
-pub own_judged : (sizes seat own : List Test) {s o r : Answer} → T (numbered (sizes ++ seat)) → Judges (sizes ++ seat) s → Judges own o → r ≡ first_of s o
-    → Judges (sizes ++ (seat ++ own)) r
-own_judged sizes seat own {s} {o} w j k e =
-    subst (Judges (sizes ++ (seat ++ own))) (sym e)
-    (subst (λ (ts : List Test). Judges ts (first_of s o)) (append_assoc sizes seat own) (judged_then (sizes ++ seat) own w j k))
+  pub seat_refused : {r : Refusal} → Judges (sizes ++ seat) (Err r) → Judges (sizes ++ (seat ++ own)) (Err r)
+  seat_refused j = regroup (judged_stays (sizes ++ seat) own w j)
 
--- a gate that is fed no number has no test of its own
-pub none_judged : Judges [] Taken
-unfolding first
-none_judged = record { is = refl }
+  pub own_decides : {u : Unit} {r : Ruling} → Judges (sizes ++ seat) (Ok u) → Judges own r → Judges (sizes ++ (seat ++ own)) r
+  own_decides j k = regroup (judged_behind (sizes ++ seat) own w j k)
 
 -- ---- the call that was judged
 
-module _ (sizes : List Test) (b : Buffers) (c : Call) {r : Answer} (j : Judges (sizes ++ c.tests) r) where
+module _ (sizes : List Test) (b : Buffers) (c : Call) where
   -- none applied: the work is done
-  pub works : r ≡ Taken → {r' : Answer} {b' : Buffers} → says r' ≡ accepted c.answer → b' ≡ c.left → Does (outcome_of sizes b c) r' b'
-  works e {r'} {b'} p q = by (first (sizes ++ c.tests)) (passed j e)
-    where
-      by : (k : ℕ) → k ≡ 0 → Does (unless k b c) r' b'
-      by zero h = record { answers = p; leaves = q }
-      by (suc k) h = absurd (omega arith)
+  pub works : {u : Unit} → Judges (sizes ++ c.tests) (Ok u) → {r : Answer} {b' : Buffers} → says r ≡ accepted c.answer → b' ≡ c.left
+      → Does (outcome_of sizes b c) r b'
+  works j = takes b c (passed j)
 
   -- one did: its number, and what was there
-  pub keeps : (r ≡ Taken → ⊥) → Does (outcome_of sizes b c) r b
-  keeps h = by r h (first (sizes ++ c.tests)) j.is
-    where
-      by : (r : Answer) → (r ≡ Taken → ⊥) → (k : ℕ) → says r ≡ verdict k → Does (unless k b c) r b
-      by Taken h k e = absurd (h refl)
-      by (Value v) h zero e = absurd (let z : ◌≡◌ {A = ℕ} 0 1 = (cc) in omega arith)
-      by (Value v) h (suc k) e = absurd (let z : ◌≡◌ {A = ℕ} 0 1 = (cc) in omega arith)
-      by (Refused q) h zero e = absurd (let z : ◌≡◌ {A = ℕ} 0 1 = (cc) in omega arith)
-      by (Refused q) h (suc k) e = record { answers = e; leaves = refl }
+  pub keeps : {r : Refusal} → Judges (sizes ++ c.tests) (Err r) → Does (outcome_of sizes b c) (Err r) b
+  keeps {r} j = refuses r b c (sym j.is)

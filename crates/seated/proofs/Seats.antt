@@ -14,9 +14,8 @@ use Rattle.book.proofs.Refusals.{clear_start, neither, right_lengths}
 use Rattle.book.specs.Answers.{first, Test, Buffers}
 use Rattle.book.specs.Kernels.{bad_size, most_qubits, bad_length, size_tests, outside, clash, count, seat_tests}
 use Rattle.book.specs.State.{bit, uncontrolled}
-use Rattle.book.specs.declared.Answer.{Answer}
 use Rattle.book.specs.declared.Controls.{Controls}
-use Rattle.seated.specs.Judging.{verdict, Judges, Seated, free_tests}
+use Rattle.seated.specs.Judging.{Ruling, Judges, Seated, free_tests}
 
 zero_bit : (t m : ℕ) → eqb (bit t m) 1 ≡ false → bit t m ≡ 0
 zero_bit t m h = omega (arith, mod-lt (m / 2 ^ t) (zero-lt-suc 1), eqb-false (bit t m) 1 h)
@@ -66,10 +65,10 @@ unfolding first size_tests
 free most n t b us =
     ap (λ (k : ℕ). cond (bad_size most_qubits n) 1 (cond (bad_length (2 ^ n) b) 2 k)) (free_tests_lem most n t us)
 
-pub free_judged : (most n t : ℕ) (b : Buffers) {r : Answer} → Judges (size_tests n b ++ seat_tests most n t uncontrolled) r
+pub free_judged : (most n t : ℕ) (b : Buffers) {r : Ruling} → Judges (size_tests n b ++ seat_tests most n t uncontrolled) r
     → Judges (size_tests n b ++ free_tests n t) r
 unfolding seat_tests
-free_judged most n t b j = record { is = j.is ∙ ap verdict (free most n t b []) }
+free_judged most n t b j = record { is = j.is ∙ free most n t b [] }
 
 -- and what holds of such a call
 pub free_seated : (n t : ℕ) (b : Buffers) (own : List Test) → first (size_tests n b ++ (free_tests n t ++ own)) ≡ 0 → Seated n t uncontrolled b

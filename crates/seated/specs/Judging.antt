@@ -1,25 +1,22 @@
--- What a list of tests answers, and what holds of a call whose seat they let pass. Definitions only. Assumes nothing.
-use Rattle.std.specs.Prelude.{ℕ, zero, suc, ◌^◌, ◌≤◌, ◌<◌, List, [], ◌∷◌, ◌≡◌, leb, length}
-use Rattle.book.specs.Answers.{Said, taken, refused, says, Test, ◌⇒◌, first, Buffers}
+-- What a judge finds of a list of tests, and what holds of a call whose seat they let pass. Definitions only. Assumes nothing.
+use Rattle.std.specs.Prelude.{ℕ, ◌^◌, ◌≤◌, ◌<◌, List, [], ◌∷◌, ◌≡◌, leb, length, Result, Ok, Err}
+use Rattle.book.specs.Answers.{number_of, Test, ◌⇒◌, first, Buffers}
 use Rattle.book.specs.State.{bit}
-use Rattle.book.specs.declared.Answer.{Answer}
-use Rattle.book.specs.declared.Answer.TheVariants.{Taken, Value, Refused}
 use Rattle.book.specs.declared.Controls.{Controls}
+use Rattle.book.specs.declared.Refusal.{Refusal}
 
--- what a refusal's number says: 0 is none
-abbrev pub verdict : ℕ → Said
-verdict zero = taken
-verdict (suc k) = refused (suc k)
+-- a judge lets a call pass, or refuses it
+abbrev pub Ruling : Type 0
+Ruling = Result Unit Refusal
 
--- the answer is that of the first test that applies, and Taken where none does
-pub record Judges (tests : List Test) (answer : Answer) : Type 0 where
-  pub is : says answer ≡ verdict (first tests)
+-- a refusal's number, and 0 for none
+abbrev pub ruled : Ruling → ℕ
+ruled (Ok _) = 0
+ruled (Err r) = number_of r
 
--- the first refusal of two answers
-abbrev pub first_of : Answer → Answer → Answer
-first_of Taken own = own
-first_of (Value v) own = Value v
-first_of (Refused r) own = Refused r
+-- the ruling is the first test that applies, and none where none does
+pub record Judges (tests : List Test) (ruling : Ruling) : Type 0 where
+  pub is : ruled ruling ≡ first tests
 
 -- 3 of a gate that takes no control mask: 4 and 5 cannot happen to it
 abbrev pub free_tests : ℕ → ℕ → List Test

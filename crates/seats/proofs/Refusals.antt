@@ -8,16 +8,15 @@ use native.Mathlib.Nat.{mod-eq_of_lt}
 use native.Mathlib.Omega.{arith}
 use borrow.Author.Tests.{lt-ltb, le-ltb, eq-eqb, ne_eqb, ltb-false, leb-false}
 use lib.Dec.{leb, ltb}
+use Rattle.std.specs.Prelude.{Ok, Err}
 use Rattle.book.proofs.Refusals.{neither}
 use Rattle.book.specs.Answers.{first, Buffers}
 use Rattle.book.specs.Kernels.{bad_size, most_qubits, bad_length, size_tests, outside, clash, count, seat_tests}
 use Rattle.book.specs.State.{bit}
-use Rattle.book.specs.declared.Answer.{Answer}
-use Rattle.book.specs.declared.Answer.TheVariants.{Taken, Refused}
 use Rattle.book.specs.declared.Controls.{Controls}
 use Rattle.book.specs.declared.Refusal.TheVariants.{Size, Length, Qubit, Same, Form}
 use Rattle.seated.proofs.Shifts.{shl, shl_is}
-use Rattle.seated.specs.Judging.{Judges}
+use Rattle.seated.specs.Judging.{Ruling, Judges}
 
 -- test 1 passed: n is at most 24
 pub small : (n : ℕ) {out : Bool} → out ≡ bad_size most_qubits n → out ≡ false → n ≤ 24
@@ -29,11 +28,11 @@ below n k h l = mod-eq_of_lt (let m : n < k = omega arith in m)
 
 -- ---- 1 to 5
 module _ (most n t : ℕ) (c : Controls) (b : Buffers) where
-  abbrev Seat : Answer → Type 0
+  abbrev Seat : Ruling → Type 0
   Seat r = Judges (size_tests n b ++ seat_tests most n t c) r
 
   module _ {out : Bool} (e1 : out ≡ bad_size most_qubits n) where
-    pub seat_out : out ≡ true → Seat (Refused Size)
+    pub seat_out : out ≡ true → Seat (Err Size)
     unfolding first size_tests
     seat_out h = record { is = rw (sym e1 ∙ h) }
 
@@ -41,7 +40,7 @@ module _ (most n t : ℕ) (c : Controls) (b : Buffers) where
       t2 : long ≡ bad_length (2 ^ n) b
       t2 = rw (below n 64 (small n e1 p1) (let m : 24 < 64 = omega arith in m), shl_is n (small n e1 p1)) at e2
 
-      pub seat_long : long ≡ true → Seat (Refused Length)
+      pub seat_long : long ≡ true → Seat (Err Length)
       unfolding first size_tests
       seat_long h = record { is = rw (sym e1 ∙ p1, sym t2 ∙ h) }
 
@@ -49,7 +48,7 @@ module _ (most n t : ℕ) (c : Controls) (b : Buffers) where
         t3 : far ≡ (leb n t || outside n c)
         t3 = rw (below n 32 (small n e1 p1) (let m : 24 < 32 = omega arith in m)) at e3
 
-        pub seat_far : far ≡ true → Seat (Refused Qubit)
+        pub seat_far : far ≡ true → Seat (Err Qubit)
         unfolding first size_tests seat_tests
         seat_far h = record { is = rw (sym e1 ∙ p1, sym t2 ∙ p2, sym t3 ∙ h) }
 
@@ -57,7 +56,7 @@ module _ (most n t : ℕ) (c : Controls) (b : Buffers) where
           target_is : t % 32 ≡ t
           target_is = mod-eq_of_lt (let m : t < 32 = omega (arith, small n e1 p1, leb-false n t (neither (leb n t) (outside n c) (sym t3 ∙ p3)).0) in m)
 
-          pub seat_same : bit (t % 32) c.ones ≡ 1 → Seat (Refused Same)
+          pub seat_same : bit (t % 32) c.ones ≡ 1 → Seat (Err Same)
           unfolding first size_tests seat_tests
           seat_same h =
               let clashes : clash t c ≡ true = eq-eqb _ 1 (rw target_is at h) in
@@ -67,11 +66,11 @@ module _ (most n t : ℕ) (c : Controls) (b : Buffers) where
             t4 : clash t c ≡ false
             t4 = ne_eqb _ 1 (rw target_is at other)
 
-            pub seat_form : most < count c → Seat (Refused Form)
+            pub seat_form : most < count c → Seat (Err Form)
             unfolding first size_tests seat_tests
             seat_form h = record { is = rw (sym e1 ∙ p1, sym t2 ∙ p2, sym t3 ∙ p3, t4, lt-ltb most (count c) h) }
 
-            pub seat_passed : count c ≤ most → Seat Taken
+            pub seat_passed : count c ≤ most → Seat (Ok tt)
             unfolding first size_tests seat_tests
             seat_passed h = record { is = rw (sym e1 ∙ p1, sym t2 ∙ p2, sym t3 ∙ p3, t4, le-ltb most (count c) h) }
 

@@ -6,7 +6,7 @@ ghost use Rattle.book.specs.Kernels.{size_tests, seat_tests};
 ghost use Rattle.book.specs.Lent.{shown};
 ghost use Rattle.seated.specs.Judging.{Judges};
 
-use book::{Answer, Controls, MOST_QUBITS, Refusal};
+use book::{Controls, MOST_QUBITS, Refusal};
 use sizes::{bad_length, bad_size};
 
 // The target, or a bit of the control mask, is n or more: for n up to 24, which a shift need not ask of any other.
@@ -14,10 +14,7 @@ fn far(n: u32, target: u32, ones: u32) -> bool
     ensures { result ≡ (leb n target || leb (2 ^ (n % 32)) ones) }
 {
     let size: u32 = 1 << (n % 32);
-    if n <= target {
-        return true;
-    }
-    size <= ones
+    n <= target || size <= ones
 }
 
 // Tests 1 to 5: the seat of a gate that takes up to most controls. What is tested is worked out first, for any numbers; it means what 01 says where the
@@ -29,7 +26,7 @@ pub fn seat(
     target: u32,
     controls: Controls,
     most: u32,
-) -> Answer
+) -> Result<(), Refusal>
     ensures { Judges (size_tests n (shown reals imags) ++ seat_tests most n target controls) result }
 {
     let ones = controls.ones;
@@ -39,19 +36,19 @@ pub fn seat(
     let same = (ones >> (target % 32)) % 2;
     let many = u32::count_ones(ones);
     if out {
-        return Answer::Refused(Refusal::Size);
+        return Err(Refusal::Size);
     }
     if long {
-        return Answer::Refused(Refusal::Length);
+        return Err(Refusal::Length);
     }
     if far {
-        return Answer::Refused(Refusal::Qubit);
+        return Err(Refusal::Qubit);
     }
     if same == 1 {
-        return Answer::Refused(Refusal::Same);
+        return Err(Refusal::Same);
     }
     if most < many {
-        return Answer::Refused(Refusal::Form);
+        return Err(Refusal::Form);
     }
-    Answer::Taken
+    Ok(())
 }

@@ -9,18 +9,12 @@ ghost use Rattle.book.specs.Lent.{shown};
 pub fn bad_size(n: u32, most: u32) -> bool
     ensures { result ≡ bad_size most n }
 {
-    if n < 1 {
-        return true;
-    }
-    most < n
+    n < 1 || most < n
 }
 
 // A buffer is not of exactly the length that is asked.
 pub fn bad_length(reals: &[f64], imags: &[f64], size: usize) -> bool
     ensures { result ≡ bad_length size (shown reals imags) }
 {
-    if reals.len() != size {
-        return true;
-    }
-    imags.len() != size
+    reals.len() != size || imags.len() != size
 }

@@ -3,16 +3,15 @@ use mathlib.Core.Bool.{true, false}
 use mathlib.Core.List.{List}
 use mathlib.Core.Path.{◌≡◌, sym, ◌∙◌}
 use lib.Ieee.{Float}
-use Rattle.book.specs.Answers.{taken, refused, first}
+use Rattle.book.specs.Answers.{first}
 use Rattle.book.specs.Gates.{all_finite, finite_tests}
-use Rattle.seated.specs.Judging.{verdict}
 use Rattle.judging.proofs.numbers.Goals as goal
 
-all_fit : (xs : List Float) → all_finite xs ≡ true → taken ≡ verdict (first (finite_tests xs))
+all_fit : (xs : List Float) → all_finite xs ≡ true → 0 ≡ first (finite_tests xs)
 unfolding first
 all_fit xs e = rw e
 
-one_not : (xs : List Float) → all_finite xs ≡ false → refused 6 ≡ verdict (first (finite_tests xs))
+one_not : (xs : List Float) → all_finite xs ≡ false → 6 ≡ first (finite_tests xs)
 unfolding first
 one_not xs e = rw e
 
