@@ -8,7 +8,8 @@ ghost use Rattle.matrices.specs.Filled.{Holds, Filled};
 ghost use Rattle.dots.specs.Dots.{state_dot};
 
 use book::Amplitude;
-use summands::{add_product, read_at, write_at};
+use matrices::{read_at, write_at};
+use summands::add_product;
 
 // A row of A times a state.
 fn row_dot(ar: &[f64], ai: &[f64], br: &[f64], bi: &[f64], from: usize, side: usize) -> Amplitude

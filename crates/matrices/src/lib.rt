@@ -1,14 +1,17 @@
-// What every matrix call asks first: n from 1 to 6, and each buffer of exactly its length. With it go the laws of stretches of places that were filled.
+// What every matrix call asks first: n from 1 to 6, and each buffer of exactly its length; and an amplitude read and written at one place of two buffers.
+// With it go the laws of stretches of places that were filled.
 #![tactic(auto)]
 
-ghost use Rattle.std.specs.Prelude.{◌||◌, [], ◌∷◌};
+ghost use Rattle.std.specs.Prelude.{◌||◌, ◌≡◌, ◌+◌, [], ◌∷◌};
 ghost use Rattle.book.specs.Answers.{◌⇒◌};
 ghost use Rattle.book.specs.Kernels.{bad_length};
-ghost use Rattle.book.specs.Lent.{shown};
+ghost use Rattle.book.specs.Lent.{before, after, here, shown, shown_here};
+ghost use Rattle.book.specs.State.{at};
+ghost use Rattle.matrices.specs.Filled.{Holds, Filled};
 ghost use Rattle.matrices.specs.Sided.{Sided};
 ghost use Rattle.seated.specs.Judging.{Judges};
 
-use book::Refusal;
+use book::{Amplitude, Refusal};
 use sizes::{bad_length, bad_size};
 
 // n is 1 to 6 for matrices.
@@ -50,4 +53,24 @@ pub fn lengths(
     length(ar, ai, entries)?;
     length(br, bi, size)?;
     length(reals, imags, size)
+}
+
+// The amplitude at a place.
+pub fn read_at(reals: &[f64], imags: &[f64], i: usize) -> Amplitude
+    requires { Holds (i + 1) (shown_here reals imags) }
+    ensures { result ≡ at (shown reals imags) i }
+{
+    Amplitude {
+        re: reals[i],
+        im: imags[i],
+    }
+}
+
+// An amplitude stored to a place.
+pub fn write_at(reals: &mut [f64], imags: &mut [f64], i: usize, z: Amplitude)
+    requires { Holds (i + 1) (here reals imags) }
+    ensures { Filled i 1 (λ j. z) (before reals imags) (after reals imags) }
+{
+    reals[i] = z.re;
+    imags[i] = z.im;
 }

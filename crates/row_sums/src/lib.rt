@@ -8,7 +8,8 @@ ghost use Rattle.matrices.specs.Filled.{Holds, Filled};
 ghost use Rattle.row_sums.specs.Sums.{Small, row_sum, row_dot, product_at};
 
 use book::Amplitude;
-use summands::{add_product, clear_row, read_at, write_at};
+use matrices::{read_at, write_at};
+use summands::{add_product, clear_row};
 
 // One inner index: a times a row of B, added to a row of sums.
 fn add_row(
