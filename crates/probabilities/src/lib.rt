@@ -15,12 +15,8 @@ fn add_squares(reals: &[f64], imags: &[f64], from: usize, to: usize, start: f64)
     ensures { result ≡ added (at (shown reals imags)) from start (to - from) }
 {
     let mut sum = start;
-    let mut i = from;
-    while i < to {
-        let x = reals[i];
-        let y = imags[i];
+    for (x, y) in reals[from..to].iter().zip(&imags[from..to]) {
         sum = sum + (x * x + y * y);
-        i += 1;
     }
     sum
 }
