@@ -15,6 +15,7 @@ use Rattle.book.specs.Gates.{◌⊕◌}
 use Rattle.book.specs.Measuring.{square, summed, probability}
 use Rattle.book.specs.State.{State, amplitude, at, bit, uncontrolled}
 use Rattle.probabilities.specs.Stretches.{Stretch, added}
+use Rattle.seated.proofs.Shifts.{shl, shl_is}
 use Rattle.seated.specs.Judging.{Seated}
 use Rattle.pairs.proofs.Blocks.{Base, first, room, next, low, high, ended}
 
@@ -40,7 +41,6 @@ pub added_all : (s : State) (re im : List Float) (from to m : ℕ) (start : Floa
 added_all s re im from to m start l p q end e =
     let size : m ≡ to - from = omega (arith, length-take (to - from) (drop from re), length-take (to - from) (drop from im), length-drop from re, length-drop from im) in
     e ∙ ap (added s from start) size
-
 
 -- ---- the sum over the indices with target bit o
 
@@ -129,6 +129,29 @@ module _ {n t o : ℕ} {b : Buffers} (ok : Seated n t uncontrolled b) where
 
 pub small : {n t : ℕ} {b : Buffers} → Seated n t uncontrolled b → t ≤ 24
 small ok = omega (arith, ok.fits, ok.qubit)
+
+-- ---- the same over the code's shifts
+
+pub bit_is : {n t : ℕ} {b : Buffers} → Seated n t uncontrolled b → shl t ≡ 2 ^ t
+bit_is {t = t} ok = shl_is t (small ok)
+
+module _ {n t o : ℕ} {b : Buffers} (ok : Seated n t uncontrolled b) where
+  pub at_end : {base : ℕ} {sum : Float} → Summing n t o b base sum → shl n ≤ base → sum ≡ summed t o (at b) (2 ^ n)
+  at_end u l = sums_end ok u (rw (shl_is n ok.fits) at l)
+
+  module _ (either : o < 2) {base : ℕ} {sum : Float} (u : Summing n t o b base sum) (l : base < shl n) where
+    pub stretch : let from = base + o * 2 ^ t % 2 ^ 64 in Stretch from (from + shl t) b
+    stretch = rw (half_offset o t either (small ok), bit_is ok) (block_stretch ok u (rw (shl_is n ok.fits) at l) either)
+
+    pub next_block : {next_sum : Float}
+        → (let from = base + o * 2 ^ t % 2 ^ 64 in next_sum ≡ added (at b) from sum (from + shl t - from))
+        → Summing n t o b (base + (shl t + shl t)) next_sum
+    next_block e =
+        let from = base + o * 2 ^ t in
+        let size : from + 2 ^ t - from ≡ 2 ^ t = omega arith in
+        let place : base + 2 ^ t + 2 ^ t ≡ base + (2 ^ t + 2 ^ t) = omega arith in
+        let so_far = rw size at (rw (half_offset o t either (small ok), bit_is ok) at e) in
+        rw (bit_is ok, ← place) (block_done ok u (rw (shl_is n ok.fits) at l) either so_far)
 
 -- ---- the probability, by the outcome
 

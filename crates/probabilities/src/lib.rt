@@ -30,11 +30,9 @@ fn sum_half(reals: &[f64], imags: &[f64], n: u32, target: u32, outcome: u8) -> f
     let bit: usize = 1 << target;
     let offset = (outcome as usize) << target;
     let mut sum = 0.0;
-    let mut base = 0;
-    while base < size {
+    for base in (0..size).step_by(bit + bit) {
         let from = base + offset;
         sum = add_squares(reals, imags, from, from + bit, sum);
-        base = base + bit + bit;
     }
     sum
 }

@@ -18,7 +18,7 @@ loop-x-preserved c =
     let first : c.into_iter-x-iterator.result.a.rest.now ≡ take n (drop c.args.from c.args.reals.now) = cc in
     let second : c.into_iter-x-iterator.result.b.rest.now ≡ take n (drop c.args.from c.args.imags.now) = cc in
     let t = zip_turn _ _ _ c.into_iter-x-iterator.result c.loop-x.x-iterator c.next.new.self c.next.result first second c.loop-x.yielded_by _ c.in-Some.is
-        c.next.ensures.steps in
+    c.next.ensures.steps in
     let within : length c.loop-x.yielded < n = omega (arith, t.0, length-take n (drop c.args.from c.args.reals.now)) in
     rw length-append (added_more _ _ c.args.from n _ _ within (t.2 nan) (t.3 nan) c.loop-x.invariant)
 
@@ -28,5 +28,5 @@ returns c =
     let first : c.into_iter-x-iterator.result.a.rest.now ≡ take n (drop c.args.from c.args.reals.now) = cc in
     let second : c.into_iter-x-iterator.result.b.rest.now ≡ take n (drop c.args.from c.args.imags.now) = cc in
     let end = zip_end _ _ _ c.into_iter-x-iterator.result c.loop-x.x-iterator c.next.new.self c.next.result first second c.loop-x.yielded_by c.in-None.is
-        c.next.ensures.steps in
+    c.next.ensures.steps in
     added_all _ c.args.reals.now c.args.imags.now _ _ _ _ c.requires.order c.requires.reals c.requires.imags end c.loop-x.invariant
