@@ -10,7 +10,6 @@ ghost use Rattle.book.specs.State.{amplitude};
 ghost use Rattle.matrices.specs.Filled.{Holds, Filled};
 
 use book::Amplitude;
-use matrices::write_at;
 
 // Product a·b added to a sum.
 pub fn add_product(sum: Amplitude, a: Amplitude, b: Amplitude) -> Amplitude
@@ -27,7 +26,6 @@ pub fn clear_row(reals: &mut [f64], imags: &mut [f64], from: usize, side: usize)
     requires { Holds (from + side) (here reals imags) }
     ensures { Filled from side (λ j. amplitude nought nought) (before reals imags) (after reals imags) }
 {
-    for j in 0..side {
-        write_at(reals, imags, from + j, Amplitude { re: 0.0, im: 0.0 });
-    }
+    reals[from..from + side].fill(0.0);
+    imags[from..from + side].fill(0.0);
 }
