@@ -36,6 +36,35 @@ right_sizes n b j =
     let (r, i) = right_lengths (2 ^ n) b long in
     (ltb-false 24 n (neither (ltb n 1) (ltb 24 n) size).1, r, i)
 
+-- one judge after the other
+pub outputs_refused : (n : ℕ) (b out : Buffers) (us : List Test) {r : Refusal} → Judges (size_tests n out) (Err r) → Judges (into_tests n b out ++ us) (Err r)
+outputs_refused n b out us j =
+    record { is = (judged_stays (size_tests n out) (size_tests n b ++ us) (sizes_numbered n out) j).is ∙ first_both n b out us }
+
+pub then_inputs : (n : ℕ) (b out : Buffers) (us : List Test) {u : Unit} {r : Ruling} → Judges (size_tests n out) (Ok u) → Judges (size_tests n b ++ us) r
+    → Judges (into_tests n b out ++ us) r
+then_inputs n b out us j k =
+    record { is = (judged_behind (size_tests n out) (size_tests n b ++ us) (sizes_numbered n out) j k).is ∙ first_both n b out us }
+
+-- what holds of both states once 1 and 2 are passed
+pub record Passed (n : ℕ) (b out : Buffers) : Type 0 where
+  pub fits : n ≤ 24
+  pub ins : (length b.reals ≡ 2 ^ n) × (length b.imags ≡ 2 ^ n)
+  pub outs : (length out.reals ≡ 2 ^ n) × (length out.imags ≡ 2 ^ n)
+
+pub passed_both : (n : ℕ) (b out : Buffers) (us : List Test) {u : Unit} → Judges (into_tests n b out ++ us) (Ok u) → Passed n b out × (first us ≡ 0)
+unfolding into_tests
+passed_both n b out us j =
+    let ((size, (long, _)), behind) = clear_start (into_tests n b out) us tt (passed j) in
+    let (x, y) = neither (bad_length (2 ^ n) b) (bad_length (2 ^ n) out) long in (
+      record {
+        fits = ltb-false 24 n (neither (ltb n 1) (ltb 24 n) size).1;
+        ins = right_lengths (2 ^ n) b x;
+        outs = right_lengths (2 ^ n) out y;
+      },
+      behind,
+    )
+
 -- ---- a call with the tests of a seat, and its own behind them
 
 module _ (n : ℕ) (b out : Buffers) (seat own : List Test) (w : T (numbered (size_tests n b ++ seat))) (v : Option ℕ) (left : Buffers) where
@@ -46,20 +75,15 @@ module _ (n : ℕ) (b out : Buffers) (seat own : List Test) (w : T (numbered (si
   outcome = outcome_of (into_tests n b out) out c
 
   pub size_refuses : {r : Refusal} → Judges (size_tests n out) (Err r) → Does outcome (Err r) out
-  size_refuses j =
-      keeps (into_tests n b out) out c
-      (record { is = (judged_stays (size_tests n out) (size_tests n b ++ c.tests) (sizes_numbered n out) j).is ∙ first_both n b out c.tests })
+  size_refuses j = keeps (into_tests n b out) out c (outputs_refused n b out c.tests j)
 
   module _ {u : Unit} (j : Judges (size_tests n out) (Ok u)) where
-    inputs : {r : Ruling} → Judges (size_tests n b ++ c.tests) r → Judges (into_tests n b out ++ c.tests) r
-    inputs k = record { is = (judged_behind (size_tests n out) (size_tests n b ++ c.tests) (sizes_numbered n out) j k).is ∙ first_both n b out c.tests }
-
     pub seat_refuses : {r : Refusal} → Judges (size_tests n b ++ seat) (Err r) → Does outcome (Err r) out
-    seat_refuses k = keeps (into_tests n b out) out c (inputs (seat_refused (size_tests n b) seat own w k))
+    seat_refuses k = keeps (into_tests n b out) out c (then_inputs n b out c.tests j (seat_refused (size_tests n b) seat own w k))
 
     module _ {u' : Unit} (k : Judges (size_tests n b ++ seat) (Ok u')) where
       pub own_refuses : {r : Refusal} → Judges own (Err r) → Does outcome (Err r) out
-      own_refuses l = keeps (into_tests n b out) out c (inputs (own_decides (size_tests n b) seat own w k l))
+      own_refuses l = keeps (into_tests n b out) out c (then_inputs n b out c.tests j (own_decides (size_tests n b) seat own w k l))
 
       pub passes : {u'' : Unit} → Judges own (Ok u'') → {r : Answer} {b' : Buffers} → says r ≡ accepted v → b' ≡ left → Does outcome r b'
-      passes l = works (into_tests n b out) out c (inputs (own_decides (size_tests n b) seat own w k l))
+      passes l = works (into_tests n b out) out c (then_inputs n b out c.tests j (own_decides (size_tests n b) seat own w k l))

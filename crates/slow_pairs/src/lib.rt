@@ -28,11 +28,7 @@ pub fn on_pairs(
     size(reals, imags, n)?;
     seat(sr, si, n, target, controls, rule.most())?;
     rule.judge()?;
-    fill(
-        |i| place_of_pair(rule, target, controls, sr, si, i),
-        n,
-        reals,
-        imags,
-    );
+    let place = |i| place_of_pair(rule, target, controls, sr, si, i);
+    fill(place, n, reals, imags);
     Ok(None)
 }
