@@ -3,7 +3,6 @@ use Rattle.std.specs.Prelude.{ℕ, ◌+◌, ◌<◌, ◌≡◌, Option, Some, No
 use Rattle.book.specs.Answers.{Said, taken, value, refused, Replied, again, said, replies}
 use Rattle.book.specs.declared.Reply.{Reply}
 use Rattle.book.specs.declared.Reply.TheVariants.{Again, Said as Says}
-use Rattle.book.specs.declared.ValueOrNone.TheVariants.{None, Value}
 
 -- 0 taken, a refusal's own number, 768 + v a value
 abbrev pub said_number : Said → ℕ
@@ -23,7 +22,7 @@ replied_number (said x) = said_number x
 -- what AGAIN tells is a byte
 abbrev pub Byte : Reply → Type 0
 Byte (Again None) = Unit
-Byte (Again (Value v)) = v < 256
+Byte (Again (Some v)) = v < 256
 Byte (Says x) = Unit
 
 -- no two replies have one number; a call's answers are among the replies

@@ -2,10 +2,15 @@
 // any pieces. Here it reads and writes; what it makes of what it read, and what it hands on to be written, is program's.
 #![tactic(auto)]
 
-ghost use Rattle.std.specs.Prelude.{◌≤◌, ◌<◌, length};
-ghost use Rattle.book.specs.Lent.{here};
-ghost use Rattle.program.specs.Program.{run_of};
-ghost use Rattle.bench_run.specs.Turns.{Begins};
+ghost use Rattle.std.specs.Prelude.{◌≡◌, ◌≢◌, ℕ, ◌≤◌, ◌<◌, List, true, false, length};
+ghost use Rattle.std.specs.Io.KnownBytes.{Appends};
+ghost use Rattle.book.specs.Answers.{buffers};
+ghost use Rattle.book.specs.Lent.{here, before, after};
+ghost use Rattle.book.specs.Sessions as Book;
+ghost use Rattle.first_state.specs.First.{first_state};
+ghost use Rattle.program.specs.Program.{run_of, lines_of, printed};
+ghost use Rattle.stream.specs.Lines.{bad_header_line};
+ghost use Rattle.bench_run.specs.Turns.{Begins, Closes, Goes, WritesOf};
 
 mod turns;
 
@@ -37,7 +42,10 @@ struct Behind {
 }
 
 // What was not written comes first: a reader of the output cannot know of it.
-fn unless_lost(written: bool, as_read: Ended) -> Ended {
+fn unless_lost(written: bool, as_read: Ended) -> Ended
+    ensures kept { written ≡ true → result ≡ as_read }
+    ensures lost { result ≢ Ended.Unwritten → written ≡ true }
+{
     if written { as_read } else { Ended::Unwritten }
 }
 
@@ -50,7 +58,9 @@ fn behind_frames(feed: Feed) -> Ended {
 }
 
 // Whether more is to be read: not behind the end of the input, a wrong tag, or the end of the output.
-fn goes_on(got: usize, kept: u32, open: bool) -> bool {
+fn goes_on(got: usize, kept: u32, open: bool) -> bool
+    ensures { result ≡ true → «open» ≡ true }
+{
     if got == 0 {
         return false;
     }
@@ -63,7 +73,8 @@ fn goes_on(got: usize, kept: u32, open: bool) -> bool {
 // The turns that are left.
 fn left(turns: u64, more: bool) -> u64
     requires { 0 < turns }
-    ensures { result < turns }
+    ensures fewer { result < turns }
+    ensures ends { more ≡ false → result ≡ 0 }
 {
     if more { turns - 1 } else { 0 }
 }
@@ -77,7 +88,10 @@ fn take_input<R: Read, W: Write>(
     start: Running,
     reals: &mut [f64],
     imags: &mut [f64],
-) -> Behind {
+) -> Behind
+    ensures { result.open ≡ true → Goes (R.remaining input.old) (R.remaining input.new) (W.contents output.old) (W.contents output.new)
+        (run_of start) (before reals imags) (run_of result.end) (after reals imags) }
+{
     let mut chunk = [0u8; PIECE];
     let mut out = [0u8; OUT];
     let mut end = start;
@@ -97,6 +111,8 @@ fn take_input<R: Read, W: Write>(
 // CUT, the A lines and END.
 fn write_closing<W: Write>(output: &mut W, end: Running, reals: &[f64], imags: &[f64]) -> bool
     requires { length reals.now ≤ 2048 }
+    ensures { result ≡ true → (written : List ℕ) × Closes (run_of end) (buffers reals.now imags.now) written
+        × Appends (W.contents output.old) (W.contents output.new) written }
 {
     let mut out = [0u8; OUT];
     let n = closing(end, reals, imags, &mut out);
@@ -113,6 +129,8 @@ fn run_session<R: Read, W: Write>(
     imags: &mut [f64],
 ) -> Ended
     requires { Begins (run_of start) (here reals imags) }
+    ensures { result ≢ Ended.Unwritten → WritesOf (lines_of (run_of start).form.session (before reals imags))
+        (R.remaining input.old) (R.remaining input.new) (W.contents output.old) (W.contents output.new) }
 {
     let behind = take_input(engine, input, output, start, reals, imags);
     let end = behind.end;
@@ -132,6 +150,8 @@ fn run_bench<R: Read, W: Write>(
     number: u32,
 ) -> Ended
     requires { n ≤ 11 }
+    ensures { result ≢ Ended.Unwritten → WritesOf (lines_of (Book.fresh n number) (first_state n))
+        (R.remaining input.old) (R.remaining input.new) (W.contents output.old) (W.contents output.new) }
 {
     let size: usize = 1 << n;
     let mut reals = first_state::first_reals();
@@ -147,7 +167,9 @@ fn run_bench<R: Read, W: Write>(
 }
 
 // Only this line.
-fn bad_header<W: Write>(output: &mut W) -> Ended {
+fn bad_header<W: Write>(output: &mut W) -> Ended
+    ensures { result ≢ Ended.Unwritten → Appends (W.contents output.old) (W.contents output.new) bad_header_line }
+{
     let mut line = [0u8; 128];
     let n = printing::put_bad_header(&mut line, 0);
     let written = output.write_all(&line[..n]).is_ok();
@@ -155,7 +177,10 @@ fn bad_header<W: Write>(output: &mut W) -> Ended {
 }
 
 // From a reader, which is a stored run's or standard input, to a writer.
-pub fn run_from<R: Read, W: Write>(engine: u32, input: &mut R, output: &mut W) -> Ended {
+pub fn run_from<R: Read, W: Write>(engine: u32, input: &mut R, output: &mut W) -> Ended
+    ensures { result ≢ Ended.Unwritten → WritesOf printed
+        (R.remaining input.old) (R.remaining input.new) (W.contents output.old) (W.contents output.new) }
+{
     let mut head = [0u8; 8];
     let got = read_full(input, &mut head).unwrap_or(0);
     let header = headers::read_header(&head[..got]);

@@ -2,17 +2,18 @@
 #![tactic(auto)]
 
 ghost use Rattle.std.specs.Prelude.{◌≡◌};
-ghost use Rattle.book.specs.Answers.{says, replies};
+ghost use Rattle.book.specs.Answers.{replies};
+ghost use Rattle.seated.specs.Judging.{ruled};
 ghost use Rattle.counting.specs.Counts.{Counts, behind, Passes};
 
-use book::{Answer, Reply, ValueOrNone};
+use book::{Answer, Refusal, Reply};
 use marks::marked;
 
 // The count after a record, the value that is kept, the mark, and the record's reply.
 #[derive(Clone, Copy)]
 pub struct Counted {
     pub count: u16,
-    pub value: ValueOrNone,
+    pub value: Option<u8>,
     pub mark: u32,
     pub reply: Reply,
 }
@@ -21,7 +22,7 @@ pub struct Counted {
 // refused leaves all three.
 pub fn ran(
     count: u16,
-    value: ValueOrNone,
+    value: Option<u8>,
     mark: u32,
     next: u16,
     bytes: &[u8],
@@ -32,19 +33,13 @@ pub fn ran(
     let reply = Reply::Said(answer);
     let moved = marked(mark, bytes);
     match answer {
-        Answer::Taken => Counted {
+        Ok(own) => Counted {
             count: next,
-            value: ValueOrNone::None,
+            value: own,
             mark: moved,
             reply,
         },
-        Answer::Value(v) => Counted {
-            count: next,
-            value: ValueOrNone::Value(v),
-            mark: moved,
-            reply,
-        },
-        Answer::Refused(_) => Counted {
+        Err(_) => Counted {
             count,
             value,
             mark,
@@ -54,18 +49,23 @@ pub fn ran(
 }
 
 // What the size is refused for comes before a reply.
-fn behind(size: Answer, reply: Reply) -> Reply
-    ensures { replies result ≡ behind (says size) (replies reply) }
+fn behind(size: Result<(), Refusal>, reply: Reply) -> Reply
+    ensures { replies result ≡ behind (ruled size) (replies reply) }
 {
     match size {
-        Answer::Taken => reply,
-        Answer::Value(_) => reply,
-        Answer::Refused(_) => Reply::Said(size),
+        Ok(()) => reply,
+        Err(refusal) => Reply::Said(Err(refusal)),
     }
 }
 
 // A record that was not run leaves all three.
-pub fn passed(count: u16, value: ValueOrNone, mark: u32, size: Answer, reply: Reply) -> Counted
+pub fn passed(
+    count: u16,
+    value: Option<u8>,
+    mark: u32,
+    size: Result<(), Refusal>,
+    reply: Reply,
+) -> Counted
     ensures { Passes count value mark size reply result }
 {
     let reply = behind(size, reply);

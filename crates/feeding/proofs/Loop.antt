@@ -3,10 +3,13 @@
 use Prim.Native.Nat.{ℕ, ◌+◌, ◌-◌, ◌≤◌, ◌<◌, min}
 use native.Mathlib.Numerals.{add-one}
 use native.Mathlib.Omega.{arith}
+use mathlib.Core.Bool.{Bool, true, false}
 use mathlib.Core.List.{List, [], ◌∷◌, ◌++◌, append-nil, append_assoc}
 use mathlib.Core.Path.{◌≡◌, refl, sym, ap, ap₂, ◌∙◌, subst}
-use lib.ListN.{length, take, drop, get_or, length-drop, drop_of_length-le}
-use lib.Seq.{take_all, take-add, drop-drop, drop-length, drop-cons}
+use borrow.Author.Tests.{eqb-true}
+use Rattle.std.specs.Prelude.{◌==◌}
+use lib.ListN.{length, take, drop, get_or, drop_of_length-le}
+use lib.Seq.{drop-length, drop-cons}
 use Rattle.book.specs.Answers.{Buffers}
 use Rattle.book.specs.Lent.{SameSize}
 use Rattle.book.specs.Sessions.{Bench, deliver, deliver_all}
@@ -14,7 +17,7 @@ use Rattle.frames.proofs.Streams.{Settled, step_settled, step_within, step_uses,
 use Rattle.frames.specs.Streams.{Rest, begun, passing, stopped, Step, step, Stream, ends as over, goes_on, stream_of}
 use Rattle.gathering.proofs.Kept.{rest_settled, rest_back}
 use Rattle.gathering.specs.Gathering.{rest_of}
-use Rattle.once.proofs.Loop.{lent, behind}
+use Rattle.once.proofs.Loop.{asked, others}
 use Rattle.once.proofs.Runs.{all_once}
 use Rattle.once.specs.AllOnce.{cut, bench}
 use Rattle.once.specs.Answered.{Answered, answers_of}
@@ -85,55 +88,55 @@ module _ {f f' : Form} {b b' : Buffers} {bs : List ℕ} {n : ℕ} {t : List Answ
 
 -- ---- all of a piece
 
--- `at` bytes of the piece are taken, and `t` was told of them
-pub record Left (f : Form) (b : Buffers) (piece : List ℕ) (at : ℕ) (t : List Answered) (f' : Form) (b' : Buffers) : Type 0 where
-  pub within : at ≤ length piece
+-- whether bytes are left, as the code tests it
+pub some_left : (l : List ℕ) {r : Bool} → r ≡ (length l == 0) → r ≡ false → 0 < length l
+some_left [] e f = let z : ◌≡◌ {A = ℕ} 0 1 = cc in absurd (omega arith)
+some_left (x ∷ l) e f = omega arith
+
+pub none_left : (l : List ℕ) {r : Bool} → r ≡ (length l == 0) → r ≡ true → l ≡ []
+none_left [] e f = refl
+none_left (x ∷ l) e f = absurd (omega (arith, eqb-true (length (x ∷ l)) 0 (sym e ∙ f)))
+
+-- `rest` of the piece is left, and `t` was told of what was taken
+pub record Left (f : Form) (b : Buffers) (piece rest : List ℕ) (t : List Answered) (f' : Form) (b' : Buffers) : Type 0 where
   pub same : SameSize b b'
-  pub rest : (stream_of (rest_in f') (drop at piece)).rest ≡ (stream_of (rest_in f) piece).rest
-  pub run : deliver_all (bench f'.session b') (stream_of (rest_in f') (drop at piece)).deliveries
+  pub kept : (stream_of (rest_in f') rest).rest ≡ (stream_of (rest_in f) piece).rest
+  pub run : deliver_all (bench f'.session b') (stream_of (rest_in f') rest).deliveries
       ≡ deliver_all (bench f.session b) (stream_of (rest_in f) piece).deliveries
-  pub told : t ++ answers_of (bench f'.session b') (stream_of (rest_in f') (drop at piece)).deliveries
+  pub told : t ++ answers_of (bench f'.session b') (stream_of (rest_in f') rest).deliveries
       ≡ answers_of (bench f.session b) (stream_of (rest_in f) piece).deliveries
 
-pub begins : (f : Form) (b : Buffers) (piece : List ℕ) → Left f b piece 0 [] f b
-begins f b piece = record { within = omega arith; same = record { reals = refl; imags = refl }; rest = refl; run = refl; told = refl }
-
--- the code lends all that is left of the piece
-pub all_left : {f f' : Form} {b b' : Buffers} (piece : List ℕ) (at : ℕ) {n : ℕ} {t : List Answered}
-    → Takes f b (take (length piece - at) (drop at piece)) n t f' b' → Takes f b (drop at piece) n t f' b'
-all_left piece at h = rw (take_all (length piece - at) (drop at piece) (omega (arith, length-drop at piece))) at h
+pub begins : (f : Form) (b : Buffers) (piece : List ℕ) → Left f b piece piece [] f b
+begins f b piece = record { same = record { reals = refl; imags = refl }; kept = refl; run = refl; told = refl }
 
 -- one step
-pub turn : {f f₁ f₂ : Form} {b b₁ b₂ : Buffers} {piece : List ℕ} {at n : ℕ} {t u : List Answered}
-    → Left f b piece at t f₁ b₁ → Takes f₁ b₁ (drop at piece) n u f₂ b₂ → SameSize b₁ b₂ → Left f b piece (at + n) (t ++ u) f₂ b₂
-turn {f} {f₁} {f₂} {b} {b₁} {b₂} {piece} {at} {n} {t} {u} h s keeps =
-    let here : Stream = stream_of (rest_in f₂) (drop n (drop at piece)) in
+pub turn : {f f₁ f₂ : Form} {b b₁ b₂ : Buffers} {piece rest behind : List ℕ} {n : ℕ} {t u : List Answered}
+    → Left f b piece rest t f₁ b₁ → Takes f₁ b₁ rest n u f₂ b₂ → behind ≡ drop n rest → SameSize b₁ b₂ → Left f b piece behind (t ++ u) f₂ b₂
+turn {f} {f₁} {f₂} {b} {b₁} {b₂} {piece} {rest} {behind} {n} {t} {u} h s back keeps =
+    let here : Stream = stream_of (rest_in f₂) (drop n rest) in
     let whole = stream_is s in
-    let next : stream_of (rest_in f₂) (drop (at + n) piece) ≡ here = ap (stream_of (rest_in f₂)) (sym (drop-drop n at piece)) in
-    record {
-      within = omega (arith, h.within, within s, length-drop at piece);
+    rw back
+    (record {
       same = record { reals = keeps.reals ∙ h.same.reals; imags = keeps.imags ∙ h.same.imags };
-      rest = ap (λ (st : Stream). st.rest) next ∙ sym (ap (λ (st : Stream). st.rest) whole) ∙ h.rest;
+      kept = sym (ap (λ (st : Stream). st.rest) whole) ∙ h.kept;
       run =
-          ap (λ (st : Stream). deliver_all (bench f₂.session b₂) st.deliveries) next
-          ∙ run_is s here.deliveries
+          run_is s here.deliveries
           ∙ sym (ap (λ (st : Stream). deliver_all (bench f₁.session b₁) st.deliveries) whole)
           ∙ h.run;
       told =
-          ap (λ (st : Stream). t ++ u ++ answers_of (bench f₂.session b₂) st.deliveries) next
-          ∙ append_assoc t u (answers_of (bench f₂.session b₂) here.deliveries)
+          append_assoc t u (answers_of (bench f₂.session b₂) here.deliveries)
           ∙ ap (λ (l : List Answered). t ++ l)
           (told_is s here.deliveries ∙ sym (ap (λ (st : Stream). answers_of (bench f₁.session b₁) st.deliveries) whole))
           ∙ h.told;
-    }
+    })
 
-pub ends : {f f' : Form} {b b' : Buffers} {piece : List ℕ} {at : ℕ} {t : List Answered}
-    → Left f b piece at t f' b' → length piece ≤ at → TakesAll f b piece t f' b'
-ends {f} {f'} {b} {b'} {piece} {at} {t} h past =
-    let none : stream_of (rest_in f') (drop at piece) ≡ over (rest_in f') =
-    ap (stream_of (rest_in f')) (drop_of_length-le piece past) ∙ stream_none (rest_in f') (rest_settled f'.held f'.kept) in
+pub ends : {f f' : Form} {b b' : Buffers} {piece rest : List ℕ} {t : List Answered}
+    → Left f b piece rest t f' b' → rest ≡ [] → TakesAll f b piece t f' b'
+ends {f} {f'} {b} {b'} {piece} {rest} {t} h past =
+    let none : stream_of (rest_in f') rest ≡ over (rest_in f') =
+    ap (stream_of (rest_in f')) past ∙ stream_none (rest_in f') (rest_settled f'.held f'.kept) in
     record {
-      rest = sym (ap (λ (st : Stream). st.rest) none) ∙ h.rest;
+      rest = sym (ap (λ (st : Stream). st.rest) none) ∙ h.kept;
       once =
           all_once f.session b (stream_of (rest_in f) piece).deliveries f'.session b'
           (sym (ap (λ (st : Stream). deliver_all (bench f'.session b') st.deliveries) none) ∙ h.run);
@@ -146,7 +149,7 @@ ends {f} {f'} {b} {b'} {piece} {at} {t} h past =
 -- ---- piece after piece
 
 pub none_taken : (f : Form) (b : Buffers) → TakesAll f b [] [] f b
-none_taken f b = ends (begins f b []) (omega arith)
+none_taken f b = ends (begins f b []) refl
 
 pub more : {f f₁ f₂ : Form} {b b₁ b₂ : Buffers} {xs ys : List ℕ} {t u : List Answered}
     → TakesAll f b xs t f₁ b₁ → TakesAll f₁ b₁ ys u f₂ b₂ → TakesAll f b (xs ++ ys) (t ++ u) f₂ b₂
@@ -170,43 +173,37 @@ more {f} {f₁} {f₂} {b} {b₁} {b₂} {xs} {ys} {t} {u} p q =
           ∙ sym (ap (λ (st : Stream). answers_of x st.deliveries) whole);
     }
 
--- the pieces lie one behind the other in one buffer; `i` of them are taken, which are its first `at` bytes
-pub record Pieces (bytes lengths : List ℕ) (f : Form) (b : Buffers) (at i : ℕ) (t : List Answered) (f' : Form) (b' : Buffers) : Type 0 where
-  pub within : at ≤ length bytes
+-- the pieces lie one behind the other in one buffer; `i` of them are taken, which were `before`, and `rest` of the buffer is left
+pub record Pieces (bytes lengths : List ℕ) (f : Form) (b : Buffers) (rest : List ℕ) (i : ℕ) (t : List Answered) (f' : Form) (b' : Buffers) : Type 0 where
   pub same : SameSize b b'
-  pub taken : TakesAll f b (take at bytes) t f' b'
-  pub left : take at bytes ++ joined (cut (drop at bytes) (drop i lengths)) ≡ joined (cut bytes lengths)
+  pub before : List ℕ
+  pub taken : TakesAll f b before t f' b'
+  pub left : before ++ joined (cut rest (drop i lengths)) ≡ joined (cut bytes lengths)
 
-pub no_pieces : (bytes lengths : List ℕ) (f : Form) (b : Buffers) → Pieces bytes lengths f b 0 0 [] f b
-no_pieces bytes lengths f b = record { within = omega arith; same = record { reals = refl; imags = refl }; taken = none_taken f b; left = refl }
+pub no_pieces : (bytes lengths : List ℕ) (f : Form) (b : Buffers) → Pieces bytes lengths f b bytes 0 [] f b
+no_pieces bytes lengths f b = record { same = record { reals = refl; imags = refl }; before = []; taken = none_taken f b; left = refl }
 
-pub next_piece : {bytes lengths : List ℕ} {f f₁ f₂ : Form} {b b₁ b₂ : Buffers} {at i size : ℕ} {t u : List Answered}
-    → Pieces bytes lengths f b at i t f₁ b₁ → i < length lengths → size ≡ min (get_or lengths i 0) (length bytes - at)
-    → TakesAll f₁ b₁ (take (at + size - at) (drop at bytes)) u f₂ b₂ → SameSize b₁ b₂ → Pieces bytes lengths f b (at + size) (i + 1) (t ++ u) f₂ b₂
-next_piece {bytes} {lengths} {f} {f₁} {f₂} {b} {b₁} {b₂} {at} {i} {size} {t} {u} h room is took keeps =
+pub next_piece : {bytes lengths rest part behind : List ℕ} {f f₁ f₂ : Form} {b b₁ b₂ : Buffers} {i size : ℕ} {t u : List Answered}
+    → Pieces bytes lengths f b rest i t f₁ b₁ → i < length lengths → size ≡ min (get_or lengths i 0) (length rest)
+    → part ≡ take size rest → behind ≡ drop size rest
+    → TakesAll f₁ b₁ part u f₂ b₂ → SameSize b₁ b₂ → Pieces bytes lengths f b behind (i + 1) (t ++ u) f₂ b₂
+next_piece {bytes} {lengths} {rest} {part} {behind} {f} {f₁} {f₂} {b} {b₁} {b₂} {i} {size} {t} {u} h room is cut_off left_over took keeps =
     let l = get_or lengths i 0 in
-    let here = take at bytes in
-    let rest = joined (cut (drop l (drop at bytes)) (drop (i + 1) lengths)) in
-    let all : at + size - at ≡ size = omega arith in
-    let both : take (at + size) bytes ≡ here ++ take (at + size - at) (drop at bytes) =
-    take-add at size bytes ∙ ap (λ (k : ℕ). here ++ take k (drop at bytes)) (sym all) in
     record {
-      within = omega (arith, h.within, is);
       same = record { reals = keeps.reals ∙ h.same.reals; imags = keeps.imags ∙ h.same.imags };
-      taken = rw both (more h.taken took);
+      before = h.before ++ part;
+      taken = more h.taken took;
       left =
-          ap₂ (λ (x y : List ℕ). x ++ joined (cut y (drop (i + 1) lengths)))
-          (both ∙ ap (λ (x : List ℕ). here ++ x) (lent bytes at l size is))
-          (behind bytes at l size is)
-          ∙ append_assoc here (take l (drop at bytes)) rest
-          ∙ ap (λ (ls : List ℕ). here ++ joined (cut (drop at bytes) ls)) (ap (λ (k : ℕ). l ∷ drop k lengths) (add-one i) ∙ sym (drop-cons lengths i 0 room))
+          append_assoc h.before part (joined (cut behind (drop (i + 1) lengths)))
+          ∙ ap (λ (x : List ℕ). h.before ++ x)
+          (ap₂ (λ (x y : List ℕ). x ++ joined (cut y (drop (i + 1) lengths))) (asked rest l is cut_off) (others rest l is left_over)
+          ∙ ap (λ (ls : List ℕ). joined (cut rest ls)) (ap (λ (k : ℕ). l ∷ drop k lengths) (add-one i) ∙ sym (drop-cons lengths i 0 room)))
           ∙ h.left;
     }
 
-pub all_pieces : {bytes lengths : List ℕ} {f f' : Form} {b b' : Buffers} {at i : ℕ} {t : List Answered}
-    → Pieces bytes lengths f b at i t f' b' → length lengths ≤ i → TakesAll f b (joined (cut bytes lengths)) t f' b'
-all_pieces {bytes} {lengths} {f} {f'} {b} {b'} {at} {i} {t} h past =
-    let none : joined (cut (drop at bytes) (drop i lengths)) ≡ [] =
-    ap (λ (ls : List ℕ). joined (cut (drop at bytes) ls)) (drop_of_length-le lengths past) in
-    let all = sym (append-nil (take at bytes)) ∙ ap (λ (l : List ℕ). take at bytes ++ l) (sym none) ∙ h.left in
+pub all_pieces : {bytes lengths rest : List ℕ} {f f' : Form} {b b' : Buffers} {i : ℕ} {t : List Answered}
+    → Pieces bytes lengths f b rest i t f' b' → length lengths ≤ i → TakesAll f b (joined (cut bytes lengths)) t f' b'
+all_pieces {bytes} {lengths} {rest} {f} {f'} {b} {b'} {i} {t} h past =
+    let none : joined (cut rest (drop i lengths)) ≡ [] = ap (λ (ls : List ℕ). joined (cut rest ls)) (drop_of_length-le lengths past) in
+    let all = sym (append-nil h.before) ∙ ap (λ (l : List ℕ). h.before ++ l) (sym none) ∙ h.left in
     subst (λ (l : List ℕ). TakesAll f b l t f' b') all h.taken

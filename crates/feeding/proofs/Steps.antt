@@ -224,13 +224,13 @@ module _ (held : List ℕ) (kept : ℕ) (piece : List ℕ) (size : length held �
           ∙ contents_of bs len (omega (arith, told.there)))
       by (over k) is d u =
           let told = sized piece is in
-          let None = past_none (kept - most_held) piece d in
+          let bare = past_none (kept - most_held) piece d in
           let there = length-drop 3 piece in
-          let short : len ≡ 0 = omega (arith, ap length None, length-take-le len (drop 3 piece) (omega (arith, told.there))) in
+          let short : len ≡ 0 = omega (arith, ap length bare, length-take-le len (drop 3 piece) (omega (arith, told.there))) in
           let most : 3 + len ≤ most_held = told.most in
           let within : used ≤ length piece = omega (arith, step_within (passing (kept - most_held)) piece) in
           let first = length-take-le (3 + len - used) held (omega arith) in
           let last = length-take-le used piece within in
           let all = length-append (take (3 + len - used) held) (take used piece) in
-          two most within (drop_of_length-le (take (3 + len - used) held ++ take used piece) {i = 3} (omega arith) ∙ sym None)
+          two most within (drop_of_length-le (take (3 + len - used) held ++ take used piece) {i = 3} (omega arith) ∙ sym bare)
       by wrong is d u = absurd (clash (cc))

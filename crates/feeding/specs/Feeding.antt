@@ -3,6 +3,7 @@ use Rattle.std.specs.Prelude.{ℕ, ◌+◌, ◌*◌, ◌≤◌, min, Bool, true,
 use Rattle.answers.specs.Told.{replied_number}
 use Rattle.book.specs.Answers.{replies, Buffers}
 use Rattle.book.specs.Sessions as Book
+use Rattle.book.specs.declared.Reply.{Reply}
 use Rattle.book.specs.Sessions.{deliver_all}
 use Rattle.frames.specs.Streams.{Rest, begun, passing, stopped, step, stream_of}
 use Rattle.gathering.specs.Gathering.{most_held, rest_of, kept_of, held_of}
@@ -12,8 +13,6 @@ use Rattle.sessions.specs.Deliveries.{meant}
 use Rattle.stores.specs.Stores.{store}
 use Rattle.feeding.specs.declared.Stepped.{Stepped}
 use Rattle.feeding.specs.declared.Feed.{Feed}
-use Rattle.feeding.specs.declared.Told.{Told}
-use Rattle.feeding.specs.declared.Told.TheVariants.{Nothing, Reply}
 
 -- ---- the form
 
@@ -47,9 +46,9 @@ list_of None = []
 list_of (Some bytes) = bytes ∷ []
 
 -- what is told of it, with the count after it
-abbrev pub told_of : Told → ℕ → List Answered
-told_of Nothing count = []
-told_of (Reply x) count = record { says = replies x; count = count } ∷ []
+abbrev pub told_of : Option Reply → ℕ → List Answered
+told_of None count = []
+told_of (Some x) count = record { says = replies x; count = count } ∷ []
 
 -- two parts of a frame: its tag and length are there, and it is no longer than what is held
 pub record Joins (first last : List ℕ) : Type 0 where

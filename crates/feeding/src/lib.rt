@@ -7,9 +7,10 @@ ghost use Rattle.once.specs.AllOnce.{cut};
 ghost use Rattle.sessions.specs.Deliveries.{meant};
 ghost use Rattle.feeding.specs.Feeding.{form, form_of, rest_in, cuts, told_of, Joins, Makes, Takes, joined, Filled, Went, Fills};
 
+use act::Engine;
 use answers::tell_reply;
 use book::Reply;
-use gathering::{Due, STOPPED, gather};
+use gathering::{Due, Gathered, STOPPED, gather};
 use once::next_size;
 use sessions::Session;
 use words::add;
@@ -22,19 +23,12 @@ pub struct Feed {
     pub held: [u8; 97],
 }
 
-// What a call tells: nothing, or what its delivery was answered.
-#[derive(Clone, Copy)]
-pub enum Told {
-    Nothing,
-    Reply(Reply),
-}
-
-// A call hands back the next form, how many bytes of the piece it used, and what it tells. The bytes behind those are for the next call.
+// A call hands back the next form, how many bytes of the piece it used, and what its delivery was answered, if it made one. The bytes behind those are for the next call.
 #[derive(Clone, Copy)]
 pub struct Taken {
     pub next: Feed,
     pub used: usize,
-    pub told: Told,
+    pub told: Option<Reply>,
 }
 
 // The same for a caller who keeps the 97 bytes.
@@ -43,12 +37,11 @@ pub struct Stepped {
     pub session: Session,
     pub kept: u32,
     pub used: usize,
-    pub told: Told,
+    pub told: Option<Reply>,
 }
 
 // The delivery of a frame's contents, which used so many bytes of the piece. Behind a frame nothing is kept.
-fn make(
-    engine: u32,
+fn make<E: Engine>(
     session: Session,
     used: usize,
     contents: &[u8],
@@ -57,20 +50,17 @@ fn make(
 ) -> Stepped
     ensures { Makes (meant session) (before reals imags) contents.now used result (after reals imags) }
 {
-    let delivered = session.deliver(engine, contents, reals, imags);
-    let next = delivered.next;
-    let reply = delivered.reply;
+    let delivered = session.deliver::<E>(contents, reals, imags);
     Stepped {
-        session: next,
+        session: delivered.next,
         kept: 0,
         used,
-        told: Told::Reply(reply),
+        told: Some(delivered.reply),
     }
 }
 
 // A frame that came in two parts: they are put together.
-fn make_joined(
-    engine: u32,
+fn make_joined<E: Engine>(
     session: Session,
     first: &[u8],
     last: &[u8],
@@ -84,13 +74,12 @@ fn make_joined(
     let mut frame = [0u8; 97];
     let have = add(&mut frame, 0, first);
     let end = add(&mut frame, have, last);
-    make(engine, session, last.len(), &frame[3..end], reals, imags)
+    make::<E>(session, last.len(), &frame[3..end], reals, imags)
 }
 
 // One step: the piece is used up to the end of the first frame that it completes, and that is delivered; all of it where it completes none.
 // A frame that stands whole in its piece is delivered from there.
-pub fn take_piece(
-    engine: u32,
+pub fn take_piece<E: Engine>(
     session: Session,
     kept: u32,
     held: &mut [u8; 97],
@@ -101,10 +90,11 @@ pub fn take_piece(
     ensures { Takes (form (meant session) kept held.old) (before reals imags) piece.now result.used
         (told_of result.told result.session.count) (form (meant result.session) result.kept held.new) (after reals imags) }
 {
-    let gathered = gather(held, kept, piece);
-    let used = gathered.used;
-    let next = gathered.kept;
-    let due = gathered.due;
+    let Gathered {
+        used,
+        kept: next,
+        due,
+    } = gather(held, kept, piece);
     match due {
         Due::Nothing => {
             if next < STOPPED {
@@ -114,25 +104,18 @@ pub fn take_piece(
                 session,
                 kept: next,
                 used,
-                told: Told::Nothing,
+                told: None,
             }
         }
         Due::Frame(len) => {
             let end = 3 + len;
             if used < end {
                 let all = &held[..];
-                return make_joined(
-                    engine,
-                    session,
-                    &all[..end - used],
-                    &piece[..used],
-                    reals,
-                    imags,
-                );
+                return make_joined::<E>(session, &all[..end - used], &piece[..used], reals, imags);
             }
-            make(engine, session, used, &piece[3..end], reals, imags)
+            make::<E>(session, used, &piece[3..end], reals, imags)
         }
-        Due::TooLong => make(engine, session, used, &piece[..0], reals, imags),
+        Due::TooLong => make::<E>(session, used, &piece[..0], reals, imags),
     }
 }
 
@@ -145,23 +128,22 @@ struct Filling {
 }
 
 // What was told goes into the list as one number, where it has room.
-fn fill(told: Told, count: u16, filled: usize, answers: &mut [u32]) -> usize
+fn fill(told: Option<Reply>, count: u16, filled: usize, answers: &mut [u32]) -> usize
     requires { filled ≤ length answers.old }
     ensures { Filled answers.old filled (told_of told count) result answers.new }
 {
-    let Told::Reply(reply) = told else {
+    let Some(reply) = told else {
         return filled;
     };
     if filled < answers.len() {
-        answers[filled] = tell_reply(reply) * 65536 + count as u32;
+        answers[filled] = tell_reply(reply) * 65536 + u32::from(count);
         return filled + 1;
     }
     filled
 }
 
 // All of a piece, step by step.
-fn take_whole(
-    engine: u32,
+fn take_whole<E: Engine>(
     from: Filling,
     held: &mut [u8; 97],
     piece: &[u8],
@@ -177,15 +159,13 @@ fn take_whole(
     let mut session = from.session;
     let mut kept = from.kept;
     let mut filled = from.filled;
-    let mut at: usize = 0;
-    while at < piece.len() {
-        let fed = take_piece(engine, session, kept, held, &piece[at..], reals, imags);
-        let next = fed.session;
-        let told = fed.told;
-        filled = fill(told, next.count, filled, answers);
-        session = next;
+    let mut rest = piece;
+    while !rest.is_empty() {
+        let fed = take_piece::<E>(session, kept, held, rest, reals, imags);
+        session = fed.session;
         kept = fed.kept;
-        at += fed.used;
+        filled = fill(fed.told, session.count, filled, answers);
+        rest = rest.split_at(fed.used).1;
     }
     Filling {
         session,
@@ -206,24 +186,20 @@ impl Feed {
         }
     }
 
-    pub fn take(self, engine: u32, piece: &[u8], reals: &mut [f64], imags: &mut [f64]) -> Taken
+    pub fn take<E: Engine>(self, piece: &[u8], reals: &mut [f64], imags: &mut [f64]) -> Taken
         ensures { Takes (form_of self) (before reals imags) piece.now result.used (told_of result.told result.next.session.count)
             (form_of result.next) (after reals imags) }
     {
         let mut held = self.held;
-        let session = self.session;
-        let fed = take_piece(engine, session, self.kept, &mut held, piece, reals, imags);
-        let after = fed.session;
-        let told = fed.told;
-        let next = Feed {
-            session: after,
-            kept: fed.kept,
-            held,
-        };
+        let fed = take_piece::<E>(self.session, self.kept, &mut held, piece, reals, imags);
         Taken {
-            next,
+            next: Feed {
+                session: fed.session,
+                kept: fed.kept,
+                held,
+            },
             used: fed.used,
-            told,
+            told: fed.told,
         }
     }
 
@@ -236,9 +212,8 @@ impl Feed {
 
     // Pieces one after the other, which lie so in `bytes`; `lengths` says how many bytes each takes.
     // Each answer is stored as one number, as far as the list goes.
-    pub fn take_all(
+    pub fn take_all<E: Engine>(
         self,
-        engine: u32,
         bytes: &[u8],
         lengths: &[usize],
         answers: &mut [u32],
@@ -249,32 +224,19 @@ impl Feed {
             answers.old answers.new (form_of result) (after reals imags) }
     {
         let mut held = self.held;
-        let start = self.session;
         let mut filling = Filling {
-            session: start,
+            session: self.session,
             kept: self.kept,
             filled: 0,
         };
-        let mut at: usize = 0;
-        let mut i: usize = 0;
-        while i < lengths.len() {
-            let size = next_size(lengths[i], bytes.len() - at);
-            let end = at + size;
-            filling = take_whole(
-                engine,
-                filling,
-                &mut held,
-                &bytes[at..end],
-                answers,
-                reals,
-                imags,
-            );
-            at = end;
-            i += 1;
+        let mut rest = bytes;
+        for asked in lengths {
+            let (piece, behind) = rest.split_at(next_size(*asked, rest.len()));
+            filling = take_whole::<E>(filling, &mut held, piece, answers, reals, imags);
+            rest = behind;
         }
-        let session = filling.session;
         Feed {
-            session,
+            session: filling.session,
             kept: filling.kept,
             held,
         }

@@ -4,30 +4,26 @@
 ghost use Rattle.std.specs.Prelude.{◌≡◌, ◌+◌, ◌*◌, ◌/◌, ◌%◌, ◌^◌};
 ghost use Rattle.book.specs.Sessions.{marked};
 
-use std::num::wrapping_add_u32;
-
 // Left by 5: the bits that leave at the top come in below.
 fn turned(mark: u32) -> u32
     ensures { result ≡ mark * 2 ^ 5 % 2 ^ 32 + mark / 2 ^ 27 }
 {
-    (mark << 5) + (mark >> 27)
+    mark.rotate_left(5)
 }
 
 // By one byte: a turn, and then the byte is added, dropping any carry out of 32 bits.
 fn moved(mark: u32, byte: u8) -> u32
     ensures { result ≡ (mark * 2 ^ 5 % 2 ^ 32 + mark / 2 ^ 27 + byte) % 2 ^ 32 }
 {
-    wrapping_add_u32(turned(mark), byte as u32)
+    turned(mark).wrapping_add(u32::from(byte))
 }
 
 pub fn marked(mark: u32, bytes: &[u8]) -> u32
     ensures { result ≡ marked mark bytes.now }
 {
     let mut next = mark;
-    let mut i: usize = 0;
-    while i < bytes.len() {
-        next = moved(next, bytes[i]);
-        i += 1;
+    for byte in bytes {
+        next = moved(next, *byte);
     }
     next
 }

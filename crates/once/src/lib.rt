@@ -7,8 +7,5 @@ ghost use Rattle.std.specs.Prelude.{◌≡◌, min};
 pub fn next_size(asked: usize, left: usize) -> usize
     ensures { result ≡ min asked left }
 {
-    if asked < left {
-        return asked;
-    }
-    left
+    asked.min(left)
 }

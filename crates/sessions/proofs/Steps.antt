@@ -7,16 +7,15 @@ use Rattle.std.specs.Prelude.{Option, Some, None}
 use mathlib.Core.Path.{◌≡◌, refl, sym, ap, ap₂, ◌∙◌}
 use Rattle.book.proofs.Calls.{refused_keeps, sized_right, sized_wrong}
 use Rattle.book.proofs.Refusals.{sizes_numbered}
-use Rattle.book.specs.Answers.{Said, refused, value_or_none, Replied, said, replies, first, Buffers, Outcome, Call, accepted, unless, accepts, Does}
+use Rattle.book.specs.Answers.{Said, refused, Answer, Replied, said, replies, first, Buffers, Outcome, Call, accepted, unless, accepts, Does}
 use Rattle.book.specs.Calls.{call_of, act}
 use Rattle.book.specs.Kernels.{size_tests}
 use Rattle.book.specs.Records.{write_record, read_record}
 use Rattle.book.specs.Sessions as Book
 use Rattle.book.specs.Sessions.{marked, raised, kept, counted, standing, take_record, take_read, deliver}
-use Rattle.book.specs.declared.Answer.{Answer}
 use Rattle.book.specs.declared.Record.{Record}
 use Rattle.book.specs.declared.Reply.{Reply}
-use Rattle.seated.specs.Judging.{verdict, Judges}
+use Rattle.seated.specs.Judging.{Ruling, Judges}
 use Rattle.counting.specs.Counts.{kept_by, Counts, behind, Passes}
 use Rattle.counting.specs.declared.Counted.{Counted}
 use Rattle.sessions.specs.Deliveries.{meant, told, unsized, Delivers}
@@ -31,7 +30,7 @@ module _ (s : Book.Session) (b : Buffers) (bytes : List ℕ) where
   unfolding deliver
   stays x e = by (first (size_tests s.n b))
     where
-      by : (k : ℕ) → take_read s b k (read_record bytes) ≡ kept s b (behind (verdict k) x)
+      by : (k : ℕ) → take_read s b k (read_record bytes) ≡ kept s b (behind k x)
       by zero = e
       by (suc k) = refl
 
@@ -75,15 +74,15 @@ module _ (s : Session) (b : Buffers) {a : Delivered} {k : Counted} (e : a ≡ to
   abbrev counting : ℕ → Option ℕ → ℕ → Book.Session
   counting count v mark = record { n = s.n; number = s.number; count = count; value = v; mark = mark }
 
-  next_is : {count mark : ℕ} {v : Option ℕ} → k.count ≡ count → value_or_none k.value ≡ v → k.mark ≡ mark
+  next_is : {count mark : ℕ} {v : Option ℕ} → k.count ≡ count → k.value ≡ v → k.mark ≡ mark
       → meant (told s k).next ≡ counting count v mark
   next_is c x m = λ i. counting (c i) (x i) (m i)
 
   -- the record was not run
-  pub passes : {x : Reply} {size : Answer} → Judges (size_tests s.n b) size → Passes s.count s.value s.mark size x k
+  pub passes : {x : Reply} {size : Ruling} → Judges (size_tests s.n b) size → Passes s.count s.value s.mark size x k
       → Delivers (unsized (meant s) b (replies x)) a b
   passes {x} j p =
-      let reply = p.reply ∙ ap (λ (y : Said). behind y (replies x)) j.is in
+      let reply = p.reply ∙ ap (λ (y : ℕ). behind y (replies x)) j.is in
       rw e (record { next = search (next_is p.counts p.value p.marks); reply = search reply; count = search p.counts; leaves = refl })
 
   -- its gate was run; the bytes of one that was taken are those that it is written as
@@ -96,14 +95,14 @@ module _ (s : Session) (b : Buffers) {a : Delivered} {k : Counted} (e : a ≡ to
       let sizes = size_tests s.n b in
       let counts : k.count ≡ cond (accepts o.says) (s.count + 1) s.count =
       c.counts ∙ ap₂ (λ (x : Said) (j : ℕ). cond (accepts x) j s.count) d.answers one in
-      let value : value_or_none k.value ≡ cond (accepts o.says) work.answer (value_or_none s.value) =
-      c.value ∙ ap (λ (x : Said). kept_by x (value_or_none s.value)) d.answers ∙ kept_by_lem (first (sizes ++ work.tests)) b work (value_or_none s.value) in
+      let value : k.value ≡ cond (accepts o.says) work.answer s.value =
+      c.value ∙ ap (λ (x : Said). kept_by x s.value) d.answers ∙ kept_by_lem (first (sizes ++ work.tests)) b work s.value in
       let mark : k.mark ≡ cond (accepts o.says) (marked s.mark bytes) s.mark =
       c.marks ∙ ap (λ (x : Said). cond (accepts x) (marked s.mark bytes) s.mark) d.answers in
       rw e (by (accepts o.says) o work.answer (refused_keeps b work sizes) written counts value mark (c.reply ∙ ap said d.answers) d.leaves)
     where
       by : (t : Bool) (o : Outcome) (v : Option ℕ) → (t ≡ false → o.left ≡ b) → (t ≡ true → write_record r ≡ bytes)
-          → k.count ≡ cond t (s.count + 1) s.count → value_or_none k.value ≡ cond t v (value_or_none s.value)
+          → k.count ≡ cond t (s.count + 1) s.count → k.value ≡ cond t v s.value
           → k.mark ≡ cond t (marked s.mark bytes) s.mark → replies k.reply ≡ said o.says → b' ≡ o.left
           → let taken : Book.Delivery = record { next = raised (meant s) r v; says = said o.says; left = o.left } in
           Delivers (cond t taken (kept (meant s) b (said o.says))) (told s k) b'

@@ -1,33 +1,30 @@
 -- Where a record stands, test by test: each test that applies, with those before it passed, gives the reply. Assumes nothing.
 use Prim.Native.Nat.{ℕ, ◌+◌, ◌≤◌, ◌<◌}
-use Rattle.std.specs.Prelude.{Option, Some}
+use Rattle.std.specs.Prelude.{Option, Some, Result, Ok, Err}
 use mathlib.Core.Path.{◌≡◌, sym, ap, ap₂, ◌∙◌}
 use native.Mathlib.Omega.{arith}
 use borrow.Author.Tests.{lt-ltb, le-ltb, eq-eqb, ne_eqb}
-use Rattle.book.specs.Answers.{value_or_none, again}
+use Rattle.book.specs.Answers.{again}
 use Rattle.book.specs.Sessions.{Session, told_again}
-use Rattle.book.specs.declared.Answer.TheVariants.{Refused}
 use Rattle.book.specs.declared.Record.{Record}
 use Rattle.book.specs.declared.Refusal.TheVariants.{Session as NoSession, Early, Full}
 use Rattle.book.specs.declared.Reply.{Reply}
 use Rattle.book.specs.declared.Reply.TheVariants.{Again, Said}
-use Rattle.book.specs.declared.ValueOrNone.{ValueOrNone}
 use Rattle.standing.specs.Stands.{Stood}
-use Rattle.standing.specs.declared.Standing.TheVariants.{Next, Answered}
 
 -- a reply is no next record
-no_next : {x : Reply} {k m : ℕ} → Answered x ≡ Next k → k ≡ m
+no_next : {x : Reply} {k m : ℕ} → ◌≡◌ {A = Result ℕ Reply} (Err x) (Ok k) → k ≡ m
 no_next e = let z : ◌≡◌ {A = ℕ} 0 1 = cc in absurd (omega arith)
 
-module _ (own count : ℕ) (v : ValueOrNone) (r : Record) where
-  pub other : (r.session ≡ own → ⊥) → Stood own count v r (Answered (Said (Refused NoSession)))
+module _ (own count : ℕ) (v : Option ℕ) (r : Record) where
+  pub other : (r.session ≡ own → ⊥) → Stood own count v r (Err (Said (Err NoSession)))
   other h = record { is = λ s e f k. rw (ne_eqb r.session s.number (λ q. h (q ∙ e))); next = λ j e. no_next e }
 
   module _ (mine : r.session ≡ own) where
     theirs : (s : Session) → s.number ≡ own → r.session ≡ s.number
     theirs s e = mine ∙ sym e
 
-    pub full : r.number ≡ 65535 → Stood own count v r (Answered (Said (Refused Full)))
+    pub full : r.number ≡ 65535 → Stood own count v r (Err (Said (Err Full)))
     full h =
         record {
           is = λ s e f k. rw (eq-eqb r.session s.number (theirs s e), eq-eqb r.number 65535 h);
@@ -35,8 +32,8 @@ module _ (own count : ℕ) (v : ValueOrNone) (r : Record) where
         }
 
     module _ (room : r.number ≡ 65535 → ⊥) where
-      pub repeated : {t : ValueOrNone} → r.number < count → value_or_none t ≡ told_again count (value_or_none v) r.number
-          → Stood own count v r (Answered (Again t))
+      pub repeated : {t : Option ℕ} → r.number < count → t ≡ told_again count v r.number
+          → Stood own count v r (Err (Again t))
       repeated {t} h told =
           record {
             is = λ s e f k.
@@ -46,7 +43,7 @@ module _ (own count : ℕ) (v : ValueOrNone) (r : Record) where
             next = λ j e. no_next e;
           }
 
-      pub early : count < r.number → Stood own count v r (Answered (Said (Refused Early)))
+      pub early : count < r.number → Stood own count v r (Err (Said (Err Early)))
       early h =
           record {
             is = λ s e f k.
@@ -59,7 +56,7 @@ module _ (own count : ℕ) (v : ValueOrNone) (r : Record) where
             next = λ j e. no_next e;
           }
 
-      pub next : count ≤ r.number → r.number ≤ count → Stood own count v r (Next (count + 1))
+      pub next : count ≤ r.number → r.number ≤ count → Stood own count v r (Ok (count + 1))
       next l h =
           record {
             is = λ s e f k.

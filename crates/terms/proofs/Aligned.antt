@@ -1,9 +1,9 @@
 -- The two terms of F, brought to one unit: the smaller one may be cut and rounded to odd, and nothing changes. Over any format, and over the number of
 -- digits that the longer term is sure to have. Assumes nothing.
-use mathlib.Core.Path.{◌≡◌, refl, sym, ap, ◌∙◌, subst}
+use mathlib.Core.Path.{◌≡◌, sym, ap, ◌∙◌, subst}
 use mathlib.Core.Logic.{◌⊎◌, inl, inr}
 use Prim.Native.Nat.{ℕ, suc, ◌+◌, ◌-◌, ◌*◌, ◌/◌, ◌%◌, ◌^◌, ◌≤◌, ◌<◌}
-use native.Mathlib.Nat.{le_trans, le_of_eq, lt_of_lt_of_le, lt_of_le_of_lt, mul_assoc, mul_left_comm, mul-pos, mul-le-mul_right, pow-succ', zero-lt-suc}
+use native.Mathlib.Nat.{le_trans, le_of_eq, lt_of_lt_of_le, lt_of_le_of_lt, mul_assoc, mul_left_comm, mul-pos, mul-le-mul_right, pow-succ', zero-lt-suc, mod-lt, div-add-mod'}
 use native.Mathlib.Omega.{arith}
 use mathlib.Core.Bool.{Bool, true, false, not}
 use lib.Dec.{T, ltb, ltb→lt, nltb→le}
@@ -13,7 +13,6 @@ use lib.Ieee.Digits.{size-lt}
 use Rattle.numbers.proofs.Sizes.{pow_lt_back}
 use Rattle.numbers.proofs.Sums.{sum_swap}
 use Rattle.rounding.specs.Odd.{to_odd, cut_to_odd}
-use Rattle.terms.specs.Terms.{limbs}
 use Rattle.rounding.specs.Working.{below, scale}
 use Rattle.rounding.proofs.Alike.{Alike}
 use Rattle.terms.proofs.AlikeLaws.{chain, coarser, scaled}
@@ -91,15 +90,13 @@ finer f B room s w a t m b l even W M =
     high a B p h = omega arith
 
 -- ---- two limbs times 2 ^ a in units of 2 ^ b, where b is above a by 64 or more
-pub coarse : (f : Format) (B : ℕ) → prec f + 1 ≤ B → (s : Bool) (h l a : ℕ) (t : Bool) (m b : ℕ) → 64 ≤ b - a → l < 2 ^ 64 → limbs h l < 2 ^ (64 + prec f)
+pub coarse : (f : Format) (B : ℕ) → prec f + 1 ≤ B → (s : Bool) (w a : ℕ) (t : Bool) (m b : ℕ) → 64 ≤ b - a → w < 2 ^ (64 + prec f)
     → m % 2 ≡ 0
     → (low f + 6 < b → 2 ^ suc B ≤ m)
-    → sum f s (cut_to_odd (to_odd h l) (b - a - 64) * 2 ^ b) t (m * 2 ^ b) (scale f) ≡ sum f s (limbs h l * 2 ^ a) t (m * 2 ^ b) (scale f)
-unfolding limbs
-coarse f B room s h l a t m b D L W even M =
+    → sum f s (cut_to_odd (to_odd (w / 2 ^ 64) (w % 2 ^ 64)) (b - a - 64) * 2 ^ b) t (m * 2 ^ b) (scale f) ≡ sum f s (w * 2 ^ a) t (m * 2 ^ b) (scale f)
+coarse f B room s w a t m b D W even M =
     let d = b - a - 64 in
-    let w = limbs h l in
-    let o = to_odd h l in
+    let o = to_odd (w / 2 ^ 64) (w % 2 ^ 64) in
     let c = cut_to_odd o d in
     let G = 2 ^ 64 * 2 ^ a in
     let two_pos : 0 < 2 = zero-lt-suc 1 in
@@ -109,7 +106,7 @@ coarse f B room s h l a t m b D L W even M =
     let k1 : Alike (2 * G) (w * 2 ^ a) (o * G) =
     subst (λ (y : ℕ). Alike y (w * 2 ^ a) (o * G)) (mul_assoc 2 (2 ^ 64) (2 ^ a))
     (subst (λ (y : ℕ). Alike (2 * 2 ^ 64 * 2 ^ a) (w * 2 ^ a) y) (mul_assoc o (2 ^ 64) (2 ^ a))
-    (scaled (2 * 2 ^ 64) (2 ^ a) (mul-pos two_pos (pow_pos 64)) (pow_pos a) (odd_alike (2 ^ 64) h l w L refl))) in
+    (scaled (2 * 2 ^ 64) (2 ^ a) (mul-pos two_pos (pow_pos 64)) (pow_pos a) (odd_alike (2 ^ 64) (w / 2 ^ 64) (w % 2 ^ 64) w (mod-lt w (pow_pos 64)) (sym (div-add-mod' w (2 ^ 64)))))) in
     let k2 : Alike (2 ^ suc b) (w * 2 ^ a) (o * G) =
     subst (λ (y : ℕ). Alike y (w * 2 ^ a) (o * G)) (mul_left_comm (2 ^ d) 2 G ∙ ap (λ (y : ℕ). 2 * y) (sym g) ∙ sym (pow-succ' 2 b))
     (coarser (2 * G) (2 ^ d) (mul-pos two_pos G_pos) (pow_pos d) k1) in
@@ -142,6 +139,6 @@ coarse f B room s h l a t m b D L W even M =
         pick true f g = inl (f tt)
         pick false f g = let h : b ≤ L + 6 = g tt in inr (omega arith)
 
-    place : (low f + 6 < b) ⊎ (suc b + 1 ≤ below f) → limbs h l * 2 ^ a < 2 ^ (B + b) → Apart f (suc b) (m * 2 ^ b) (limbs h l * 2 ^ a)
+    place : (low f + 6 < b) ⊎ (suc b + 1 ≤ below f) → w * 2 ^ a < 2 ^ (B + b) → Apart f (suc b) (m * 2 ^ b) (w * 2 ^ a)
     place (inl z) N = inl (2 ^ (B + b), pow_mono (high b B (prec f) room), twice B b m (M z), N)
     place (inr z) N = inr z

@@ -6,5 +6,3 @@ pub mod Ordinary
 pub mod AlikeLaws
 pub mod AlikeSums
 pub mod Aligned
--- numbers of two limbs
-pub mod Limbs

@@ -1,14 +1,14 @@
 -- The two terms of F, over a format f: what the steps of their sum take and hand on. Definitions only. Assumes nothing.
-use Rattle.std.specs.Prelude.{◌≡◌, ℕ, ◌+◌, ◌*◌, ◌%◌, ◌^◌, ◌≤◌, ◌<◌, Bool, false, cond, ◌&&◌, pos, Float}
+use Rattle.std.specs.Prelude.{◌≡◌, ℕ, ◌+◌, ◌*◌, ◌/◌, ◌%◌, ◌^◌, ◌≤◌, ◌<◌, Bool, false, cond, ◌&&◌, pos, Float}
 use Rattle.std.specs.Float.{fin, Format}
 use Rattle.std.specs.Float.Ieee.{prec, low, unlike, sum}
 use Rattle.numbers.specs.Fused.{fused}
 use Rattle.operands.specs.Operands.{ordinary}
 use Rattle.rounding.specs.Working.{far}
 
--- a number of two limbs
-unfoldable pub limbs : ℕ → ℕ → ℕ
-limbs hi lo = hi * 2 ^ 64 + lo
+-- the upper of the two limbs of a number of 128 digits
+abbrev pub upper : ℕ → ℕ
+upper w = w / 2 ^ 64
 
 -- w * 2 ^ a, a product, and m * 2 ^ b, the term that is added, in working units: both are even, and the larger one is long enough for the smaller to be cut
 pub record Terms (f : Format) (w a m b : ℕ) : Type 0 where

@@ -1,4 +1,4 @@
--- A state of at most 11 qubits has at most 2,048 places, before the frames and behind them.
+-- A state of at most 11 qubits has at most 2,048 places, before the frames and behind them; and what was written is what the frames make.
 use Rattle.std.proofs.Common.{ℕ, ◌-◌, ◌^◌, ◌≤◌, ◌∷◌, length, replicate, ap, arith}
 use lib.ListN.{length-map, length-replicate}
 use Rattle.book.specs.Answers.{Buffers}
@@ -6,6 +6,7 @@ use Rattle.book.specs.Examples.{whole}
 use Rattle.first_state.proofs.First.{places}
 use Rattle.program.specs.Program.{Run}
 use Rattle.bench_run.specs.Turns.{Begins}
+use Rattle.bench_run.proofs.Going.{goes_to_its_end}
 use Rattle.bench_run.proofs.run_session.Goals as goal
 
 short : {x : Run} {b : Buffers} → Begins x b → length b.reals ≤ 2048
@@ -16,3 +17,7 @@ short s =
 
 pub write_closing-written-requires : goal.write_closing-written-requires
 write_closing-written-requires g c = omega (arith, short c.requires, c.take_input-behind.auto.reals)
+
+pub returns-then-behind : goal.returns-then-behind
+returns-then-behind g c written =
+    goes_to_its_end _ _ _ _ _ c.requires (c.take_input-behind.ensures c.if-behind.true) (c.write_closing-written.ensures (c.unless_lost.ensures.lost written))

@@ -6,6 +6,7 @@ use lib.Pow.{pow-add, pow_pos}
 use lib.Ieee.{binary64, low, sum, unlike}
 use Rattle.numbers.proofs.Sums.{sum_scaled}
 use Rattle.rounding.specs.Working.{scale}
+use Rattle.std.proofs.Common.{rules}
 use Rattle.terms.proofs.sum.multiply_add.Goals as goal
 
 regroup : (m n P Q k j : ℕ) → m * k * n * (P * Q * j) ≡ m * P * (n * Q) * (k * j)
@@ -21,14 +22,18 @@ term p g l = ap (λ (y : ℕ). p * 2 ^ 10 * y) (pow-add 2 g (l + 6) ∙ ap (λ (
     four : (p a g l b : ℕ) → p * a * (g * (l * b)) ≡ p * g * l * (a * b)
     four p a g l b = simp (mul_assoc, mul_left_comm)
 
+pub aligned-requires : goal.aligned-requires
+aligned-requires c = rw (c.from.ensures, c.from-2.ensures) (search rules)
+
 pub returns : goal.returns
-returns c = let a = c.args in
+returns c =
+    let a = c.args in
     let s = unlike a.x.neg a.y.neg in
     let p = a.x.m * 2 ^ a.x.e * (a.y.m * 2 ^ a.y.e) in
     let q = a.z.m * 2 ^ a.z.e * 2 ^ low binary64 in
     c.aligned.ensures
-    ∙ ap (λ (w : ℕ). sum binary64 s (w * 2 ^ (a.x.e + a.y.e + 5)) a.z.neg (a.z.m * 2 ^ 10 * 2 ^ (a.z.e + (low binary64 + 6))) (scale binary64))
-    c.multiply-w.ensures
+    ∙ ap₂ (λ (u v : ℕ). sum binary64 s (u * v * 2 ^ (a.x.e + a.y.e + 5)) a.z.neg (a.z.m * 2 ^ 10 * 2 ^ (a.z.e + (low binary64 + 6))) (scale binary64))
+    c.from.ensures c.from-2.ensures
     ∙ ap₂ (λ (v w : ℕ). sum binary64 s v a.z.neg w (scale binary64)) (product a.x.m a.x.e a.y.m a.y.e)
     (term a.z.m a.z.e (low binary64))
     ∙ sym (sum_scaled binary64 s p a.z.neg q (2 ^ (low binary64 + low binary64)) (2 ^ 16) (pow_pos (low binary64 + low binary64)) (pow_pos 16))
