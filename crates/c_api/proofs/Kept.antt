@@ -5,7 +5,7 @@ use Rattle.std.specs.Prelude.{Option, Some, None}
 use mathlib.Core.Path.{◌≡◌, sym, ap, ap₂, ◌∙◌, subst}
 use Rattle.answers.specs.Told.{replied_number}
 use Rattle.book.proofs.ExactlyOnce.{Own, same_own, keeps_its_own}
-use Rattle.book.specs.Answers.{value_or_none, replies, Buffers}
+use Rattle.book.specs.Answers.{replies, Buffers}
 use Rattle.book.specs.Sessions as Book
 use Rattle.book.specs.Sessions.{Bench, deliver, deliver_all}
 use Rattle.feeding.specs.Feeding.{form, list_of, Takes}
@@ -28,7 +28,7 @@ module _ {w w' : List ℕ} {s : Book.Session} (k : Keeps w s.count s.value s.mar
 
 -- a delivery
 pub tells : {w w' bytes : List ℕ} {b b' : Buffers} {a : Delivered} {code : ℕ}
-    → Delivers (deliver (session_in w) b bytes) a b' → Keeps w a.next.count (value_or_none a.next.value) a.next.mark w'
+    → Delivers (deliver (session_in w) b bytes) a b' → Keeps w a.next.count a.next.value a.next.mark w'
     → code ≡ replied_number (replies a.reply) → TellsDelivery w b bytes code w' b'
 tells {w} {w'} {bytes} {b} {b'} {a} x k e =
     let own = subst (Own (session_in w)) (sym x.next) (keeps_its_own (session_in w) b bytes) in
