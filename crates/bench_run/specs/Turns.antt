@@ -1,5 +1,7 @@
 -- What the program hands to write, of what read handed over: the start, a turn's, and what stands behind the last. Definitions only. Assumes nothing.
 use Rattle.std.specs.Prelude.{ℕ, ◌+◌, ◌%◌, ◌^◌, ◌≤◌, List, ◌≡◌, length}
+use Rattle.std.specs.declared.option.Option.{Option}
+use Rattle.std.specs.Io.KnownBytes.{Consumes, Appends}
 use Rattle.book.specs.Answers.{Buffers}
 use Rattle.feeding.specs.Feeding.{rest_in, cuts, TakesAll}
 use Rattle.headers.specs.Headers.{most_in_program}
@@ -26,3 +28,15 @@ pub record Writes (x : Run) (b : Buffers) (read written : List ℕ) (x' : Run) (
 -- The end: CUT, the A lines and END, all of them.
 abbrev pub Closes : Run → Buffers → List ℕ → Type 0
 Closes x b written = written ≡ closing (cuts (rest_in x.form)) x.form.session b
+
+-- Any number of turns: what a reader handed over is taken, and what a writer took are the lines of its answers, all of them.
+pub record Goes (from from' to to' : Option (List ℕ)) (x : Run) (b : Buffers) (x' : Run) (b' : Buffers) : Type 0 where
+  pub read : List ℕ
+  pub written : List ℕ
+  pub consumed : Consumes from from' read
+  pub appended : Appends to to' written
+  pub writes : Writes x b read written x' b'
+
+-- A reader handed over bytes, and a writer took what is made of them, and nothing else.
+abbrev pub WritesOf : (List ℕ → List ℕ) → Option (List ℕ) → Option (List ℕ) → Option (List ℕ) → Option (List ℕ) → Type 0
+WritesOf make from from' to to' = (read : List ℕ) × Consumes from from' read × Appends to to' (make read)

@@ -1,11 +1,10 @@
 -- The contracts of the calls that tell an answer as one number. Definitions only. Assumes nothing.
 use Rattle.std.specs.Prelude.{ℕ, cond, List, [], ◌∷◌, ◌≡◌, eqb, Float, Option, Some, None}
 use Rattle.answers.specs.Told.{said_number, replied_number}
-use Rattle.book.specs.Answers.{Buffers, Outcome, says, Does}
+use Rattle.book.specs.Answers.{Buffers, Outcome, Answer, says, Does}
 use Rattle.book.specs.Sessions as Book
 use Rattle.book.specs.State.{amplitude}
 use Rattle.book.specs.declared.Angles.{Angles}
-use Rattle.book.specs.declared.Answer.{Answer}
 use Rattle.book.specs.declared.Matrix.{Matrix}
 use Rattle.feeding.specs.Feeding.{Form, form, Takes}
 use Rattle.gathering.specs.Gathering.{most_held}

@@ -6,11 +6,11 @@ ghost use Rattle.once.specs.AllOnce.{cut, AllOnce};
 ghost use Rattle.sessions.specs.Deliveries.{meant};
 ghost use Rattle.c_api.specs.Tells.{TellsStart, TellsDelivery};
 
-use act::FAST;
-use answers::{TAKEN, number_of, tell_reply};
+use act::Fast;
+use answers::{TAKEN, tell_reply};
 use keeping::{begin, count_in, keep, value_in};
 use once::next_size;
-use sessions::{Session, Started};
+use sessions::Session;
 
 // The session that these words are.
 pub(crate) fn session_in(words: &[u32; 8]) -> Session
@@ -31,11 +31,11 @@ pub extern "C" fn gate_bench_start(session: &mut [u32; 8], n: u32, number: u32) 
     ensures { TellsStart n number session.old result session.new }
 {
     match Session::start(n, number) {
-        Started::Fresh(_) => {
+        Ok(_) => {
             begin(session, n, number);
             TAKEN
         }
-        Started::Refused(refusal) => number_of(refusal),
+        Err(refusal) => u32::from(refusal),
     }
 }
 
@@ -49,12 +49,10 @@ pub extern "C" fn gate_bench_deliver(
 ) -> u32
     ensures { TellsDelivery session.old (before reals imags) bytes.now result session.new (after reals imags) }
 {
-    let delivered = session_in(session).deliver(FAST, bytes, reals, imags);
+    let delivered = session_in(session).deliver::<Fast>(bytes, reals, imags);
     let next = delivered.next;
-    let value = next.value;
-    keep(session, next.count, value, next.mark);
-    let reply = delivered.reply;
-    tell_reply(reply)
+    keep(session, next.count, next.value, next.mark);
+    tell_reply(delivered.reply)
 }
 
 // A caller's own loop, which stands here for its contract and is not in the archive: each call has the words and the buffers that the one before left.
@@ -68,13 +66,10 @@ pub fn deliver_all(
     ensures { AllOnce (session_in session.old) (before reals imags) (cut bytes.now lengths.now)
         (session_in session.new) (after reals imags) }
 {
-    let mut at: usize = 0;
-    let mut i: usize = 0;
-    while i < lengths.len() {
-        let size = next_size(lengths[i], bytes.len() - at);
-        let end = at + size;
-        gate_bench_deliver(session, &bytes[at..end], reals, imags);
-        at = end;
-        i += 1;
+    let mut rest = bytes;
+    for asked in lengths {
+        let (part, behind) = rest.split_at(next_size(*asked, rest.len()));
+        gate_bench_deliver(session, part, reals, imags);
+        rest = behind;
     }
 }

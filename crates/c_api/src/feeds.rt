@@ -5,9 +5,10 @@ ghost use Rattle.feeding.specs.Feeding.{told_of};
 ghost use Rattle.c_api.specs.Tells.{fed_number, words, TellsFeed};
 
 use crate::deliveries::session_in;
-use act::FAST;
+use act::Fast;
 use answers::tell_reply;
-use feeding::{Told, take_piece};
+use book::Reply;
+use feeding::take_piece;
 use gathering::STOPPED;
 use keeping::keep;
 
@@ -26,12 +27,12 @@ fn tell_nothing(kept: u32) -> u32
 }
 
 // What was told of a delivery, or that there was none.
-fn tell_told(told: Told, kept: u32, count: u16) -> u32
+fn tell_told(told: Option<Reply>, kept: u32, count: u16) -> u32
     ensures { result ≡ fed_number (told_of told count) kept }
 {
     match told {
-        Told::Nothing => tell_nothing(kept),
-        Told::Reply(reply) => tell_reply(reply),
+        None => tell_nothing(kept),
+        Some(reply) => tell_reply(reply),
     }
 }
 
@@ -49,12 +50,10 @@ pub extern "C" fn gate_bench_feed(
     ensures { TellsFeed (words session.old kept.old held.old) (before reals imags) piece.now
         result used.new (words session.new kept.new held.new) (after reals imags) }
 {
-    let fed = take_piece(FAST, session_in(session), *kept, held, piece, reals, imags);
+    let fed = take_piece::<Fast>(session_in(session), *kept, held, piece, reals, imags);
     let next = fed.session;
-    let value = next.value;
-    let told = fed.told;
-    keep(session, next.count, value, next.mark);
+    keep(session, next.count, next.value, next.mark);
     *kept = fed.kept;
     *used = fed.used;
-    tell_told(told, fed.kept, next.count)
+    tell_told(fed.told, fed.kept, next.count)
 }

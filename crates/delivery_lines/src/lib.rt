@@ -2,12 +2,11 @@
 #![tactic(auto)]
 
 ghost use Rattle.std.specs.Prelude.{◌+◌, ◌≤◌, length, ◌≡◌};
-ghost use Rattle.book.specs.Answers.{says, value_or_none, replies};
-ghost use Rattle.delivery_lines.specs.Deliveries.{answering, saying, value_of, value_told, adding, delivery_line};
+ghost use Rattle.book.specs.Answers.{says, replies};
+ghost use Rattle.delivery_lines.specs.Deliveries.{answering, saying, value_told, adding, delivery_line};
 ghost use Rattle.words.specs.Words.{Added, Line};
 
-use answers::number_of;
-use book::{Answer, Reply, ValueOrNone};
+use book::{Answer, Reply};
 use words::{add, add_number};
 
 // What a call answers, in front of the count.
@@ -16,11 +15,10 @@ fn add_answer(out: &mut [u8], at: usize, answer: Answer) -> usize
     ensures { Added (answering (says answer)) 29 out.old at result out.new }
 {
     match answer {
-        Answer::Taken => add(out, at, b" TAKEN"),
-        Answer::Value(_) => add(out, at, b" TAKEN"),
-        Answer::Refused(refusal) => {
+        Ok(_) => add(out, at, b" TAKEN"),
+        Err(refusal) => {
             let behind = add(out, at, b" REFUSED ");
-            add_number(out, behind, number_of(refusal) as u64)
+            add_number(out, behind, u32::from(refusal) as u64)
         }
     }
 }
@@ -37,37 +35,25 @@ fn add_saying(out: &mut [u8], at: usize, reply: Reply) -> usize
 }
 
 // A taken measurement or flip has a value, and so has an AGAIN that tells one.
-fn value_of(answer: Answer) -> ValueOrNone
-    ensures { value_or_none result ≡ value_of (says answer) }
-{
-    match answer {
-        Answer::Taken => ValueOrNone::None,
-        Answer::Value(v) => ValueOrNone::Value(v),
-        Answer::Refused(_) => ValueOrNone::None,
-    }
-}
-
-fn value_told(reply: Reply) -> ValueOrNone
-    ensures { value_or_none result ≡ value_told (replies reply) }
+fn value_told(reply: Reply) -> Option<u8>
+    ensures { result ≡ value_told (replies reply) }
 {
     match reply {
         Reply::Again(told) => told,
-        Reply::Said(answer) => value_of(answer),
+        Reply::Said(answer) => answer.ok().flatten(),
     }
 }
 
 // It stands behind the count.
-fn add_value(out: &mut [u8], at: usize, value: ValueOrNone) -> usize
+fn add_value(out: &mut [u8], at: usize, value: Option<u8>) -> usize
     requires { at + 27 ≤ length out.old }
-    ensures { Added (adding (value_or_none value)) 27 out.old at result out.new }
+    ensures { Added (adding value) 27 out.old at result out.new }
 {
-    match value {
-        ValueOrNone::None => at,
-        ValueOrNone::Value(v) => {
-            let behind = add(out, at, b" VALUE ");
-            add_number(out, behind, v as u64)
-        }
-    }
+    let Some(v) = value else {
+        return at;
+    };
+    let behind = add(out, at, b" VALUE ");
+    add_number(out, behind, v as u64)
 }
 
 pub fn delivery_line(out: &mut [u8; 128], index: u64, reply: Reply, count: u16) -> usize

@@ -38,8 +38,9 @@ pub fn judge<G: Fed>(
 ) -> Result<(), Refusal>
     ensures { Judges (size_tests n (shown reals imags) ++ (seat_tests G.MOST n target controls ++ G.own gate)) result }
 {
-    judging::seat(reals, imags, n, target, controls, G::MOST)?;
-    gate.own()
+    let seat = judging::seat(reals, imags, n, target, controls, G::MOST);
+    let own = gate.own();
+    seat.and(own)
 }
 
 // Test 6 of an angle.

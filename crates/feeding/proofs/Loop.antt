@@ -3,10 +3,13 @@
 use Prim.Native.Nat.{ℕ, ◌+◌, ◌-◌, ◌≤◌, ◌<◌, min}
 use native.Mathlib.Numerals.{add-one}
 use native.Mathlib.Omega.{arith}
+use mathlib.Core.Bool.{Bool, true, false}
 use mathlib.Core.List.{List, [], ◌∷◌, ◌++◌, append-nil, append_assoc}
 use mathlib.Core.Path.{◌≡◌, refl, sym, ap, ap₂, ◌∙◌, subst}
-use lib.ListN.{length, take, drop, get_or, length-drop, drop_of_length-le}
-use lib.Seq.{take_all, take-add, drop-drop, drop-length, drop-cons}
+use borrow.Author.Tests.{eqb-true}
+use Rattle.std.specs.Prelude.{◌==◌}
+use lib.ListN.{length, take, drop, get_or, drop_of_length-le}
+use lib.Seq.{drop-length, drop-cons}
 use Rattle.book.specs.Answers.{Buffers}
 use Rattle.book.specs.Lent.{SameSize}
 use Rattle.book.specs.Sessions.{Bench, deliver, deliver_all}
@@ -85,6 +88,15 @@ module _ {f f' : Form} {b b' : Buffers} {bs : List ℕ} {n : ℕ} {t : List Answ
 
 -- ---- all of a piece
 
+-- whether bytes are left, as the code tests it
+pub some_left : (l : List ℕ) {r : Bool} → r ≡ (length l == 0) → r ≡ false → 0 < length l
+some_left [] e f = let z : ◌≡◌ {A = ℕ} 0 1 = cc in absurd (omega arith)
+some_left (x ∷ l) e f = omega arith
+
+pub none_left : (l : List ℕ) {r : Bool} → r ≡ (length l == 0) → r ≡ true → l ≡ []
+none_left [] e f = refl
+none_left (x ∷ l) e f = absurd (omega (arith, eqb-true (length (x ∷ l)) 0 (sym e ∙ f)))
+
 -- `rest` of the piece is left, and `t` was told of what was taken
 pub record Left (f : Form) (b : Buffers) (piece rest : List ℕ) (t : List Answered) (f' : Form) (b' : Buffers) : Type 0 where
   pub same : SameSize b b'
@@ -98,12 +110,13 @@ pub begins : (f : Form) (b : Buffers) (piece : List ℕ) → Left f b piece piec
 begins f b piece = record { same = record { reals = refl; imags = refl }; kept = refl; run = refl; told = refl }
 
 -- one step
-pub turn : {f f₁ f₂ : Form} {b b₁ b₂ : Buffers} {piece rest : List ℕ} {n : ℕ} {t u : List Answered}
-    → Left f b piece rest t f₁ b₁ → Takes f₁ b₁ rest n u f₂ b₂ → SameSize b₁ b₂ → Left f b piece (drop n rest) (t ++ u) f₂ b₂
-turn {f} {f₁} {f₂} {b} {b₁} {b₂} {piece} {rest} {n} {t} {u} h s keeps =
+pub turn : {f f₁ f₂ : Form} {b b₁ b₂ : Buffers} {piece rest behind : List ℕ} {n : ℕ} {t u : List Answered}
+    → Left f b piece rest t f₁ b₁ → Takes f₁ b₁ rest n u f₂ b₂ → behind ≡ drop n rest → SameSize b₁ b₂ → Left f b piece behind (t ++ u) f₂ b₂
+turn {f} {f₁} {f₂} {b} {b₁} {b₂} {piece} {rest} {behind} {n} {t} {u} h s back keeps =
     let here : Stream = stream_of (rest_in f₂) (drop n rest) in
     let whole = stream_is s in
-    record {
+    rw back
+    (record {
       same = record { reals = keeps.reals ∙ h.same.reals; imags = keeps.imags ∙ h.same.imags };
       kept = sym (ap (λ (st : Stream). st.rest) whole) ∙ h.kept;
       run =
@@ -115,7 +128,7 @@ turn {f} {f₁} {f₂} {b} {b₁} {b₂} {piece} {rest} {n} {t} {u} h s keeps =
           ∙ ap (λ (l : List Answered). t ++ l)
           (told_is s here.deliveries ∙ sym (ap (λ (st : Stream). answers_of (bench f₁.session b₁) st.deliveries) whole))
           ∙ h.told;
-    }
+    })
 
 pub ends : {f f' : Form} {b b' : Buffers} {piece rest : List ℕ} {t : List Answered}
     → Left f b piece rest t f' b' → rest ≡ [] → TakesAll f b piece t f' b'

@@ -7,6 +7,7 @@ ghost use Rattle.once.specs.AllOnce.{cut};
 ghost use Rattle.sessions.specs.Deliveries.{meant};
 ghost use Rattle.feeding.specs.Feeding.{form, form_of, rest_in, cuts, told_of, Joins, Makes, Takes, joined, Filled, Went, Fills};
 
+use act::Engine;
 use answers::tell_reply;
 use book::Reply;
 use gathering::{Due, Gathered, STOPPED, gather};
@@ -40,8 +41,7 @@ pub struct Stepped {
 }
 
 // The delivery of a frame's contents, which used so many bytes of the piece. Behind a frame nothing is kept.
-fn make(
-    engine: u32,
+fn make<E: Engine>(
     session: Session,
     used: usize,
     contents: &[u8],
@@ -50,7 +50,7 @@ fn make(
 ) -> Stepped
     ensures { Makes (meant session) (before reals imags) contents.now used result (after reals imags) }
 {
-    let delivered = session.deliver(engine, contents, reals, imags);
+    let delivered = session.deliver::<E>(contents, reals, imags);
     Stepped {
         session: delivered.next,
         kept: 0,
@@ -60,8 +60,7 @@ fn make(
 }
 
 // A frame that came in two parts: they are put together.
-fn make_joined(
-    engine: u32,
+fn make_joined<E: Engine>(
     session: Session,
     first: &[u8],
     last: &[u8],
@@ -75,13 +74,12 @@ fn make_joined(
     let mut frame = [0u8; 97];
     let have = add(&mut frame, 0, first);
     let end = add(&mut frame, have, last);
-    make(engine, session, last.len(), &frame[3..end], reals, imags)
+    make::<E>(session, last.len(), &frame[3..end], reals, imags)
 }
 
 // One step: the piece is used up to the end of the first frame that it completes, and that is delivered; all of it where it completes none.
 // A frame that stands whole in its piece is delivered from there.
-pub fn take_piece(
-    engine: u32,
+pub fn take_piece<E: Engine>(
     session: Session,
     kept: u32,
     held: &mut [u8; 97],
@@ -113,18 +111,11 @@ pub fn take_piece(
             let end = 3 + len;
             if used < end {
                 let all = &held[..];
-                return make_joined(
-                    engine,
-                    session,
-                    &all[..end - used],
-                    &piece[..used],
-                    reals,
-                    imags,
-                );
+                return make_joined::<E>(session, &all[..end - used], &piece[..used], reals, imags);
             }
-            make(engine, session, used, &piece[3..end], reals, imags)
+            make::<E>(session, used, &piece[3..end], reals, imags)
         }
-        Due::TooLong => make(engine, session, used, &piece[..0], reals, imags),
+        Due::TooLong => make::<E>(session, used, &piece[..0], reals, imags),
     }
 }
 
@@ -152,8 +143,7 @@ fn fill(told: Option<Reply>, count: u16, filled: usize, answers: &mut [u32]) -> 
 }
 
 // All of a piece, step by step.
-fn take_whole(
-    engine: u32,
+fn take_whole<E: Engine>(
     from: Filling,
     held: &mut [u8; 97],
     piece: &[u8],
@@ -171,11 +161,11 @@ fn take_whole(
     let mut filled = from.filled;
     let mut rest = piece;
     while !rest.is_empty() {
-        let fed = take_piece(engine, session, kept, held, rest, reals, imags);
+        let fed = take_piece::<E>(session, kept, held, rest, reals, imags);
         session = fed.session;
         kept = fed.kept;
         filled = fill(fed.told, session.count, filled, answers);
-        rest = &rest[fed.used..];
+        rest = rest.split_at(fed.used).1;
     }
     Filling {
         session,
@@ -196,20 +186,12 @@ impl Feed {
         }
     }
 
-    pub fn take(self, engine: u32, piece: &[u8], reals: &mut [f64], imags: &mut [f64]) -> Taken
+    pub fn take<E: Engine>(self, piece: &[u8], reals: &mut [f64], imags: &mut [f64]) -> Taken
         ensures { Takes (form_of self) (before reals imags) piece.now result.used (told_of result.told result.next.session.count)
             (form_of result.next) (after reals imags) }
     {
         let mut held = self.held;
-        let fed = take_piece(
-            engine,
-            self.session,
-            self.kept,
-            &mut held,
-            piece,
-            reals,
-            imags,
-        );
+        let fed = take_piece::<E>(self.session, self.kept, &mut held, piece, reals, imags);
         Taken {
             next: Feed {
                 session: fed.session,
@@ -230,9 +212,8 @@ impl Feed {
 
     // Pieces one after the other, which lie so in `bytes`; `lengths` says how many bytes each takes.
     // Each answer is stored as one number, as far as the list goes.
-    pub fn take_all(
+    pub fn take_all<E: Engine>(
         self,
-        engine: u32,
         bytes: &[u8],
         lengths: &[usize],
         answers: &mut [u32],
@@ -251,7 +232,7 @@ impl Feed {
         let mut rest = bytes;
         for asked in lengths {
             let (piece, behind) = rest.split_at(next_size(*asked, rest.len()));
-            filling = take_whole(engine, filling, &mut held, piece, answers, reals, imags);
+            filling = take_whole::<E>(filling, &mut held, piece, answers, reals, imags);
             rest = behind;
         }
         Feed {

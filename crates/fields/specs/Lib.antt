@@ -1,2 +1,2 @@
--- What the field readers answer.
-pub mod Answers
+-- What a field that was read holds.
+pub mod Fields

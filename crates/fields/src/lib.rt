@@ -1,99 +1,72 @@
-// Fields of a gate record, read at a place of the bytes. Each answers what it holds and the place behind it, or that it is not there as listed.
+// Fields of a gate record, each at the start of the bytes: what it holds and what follows it, or none where it is not there as listed.
 #![tactic(auto)]
 
-ghost use Rattle.std.specs.Prelude.{◌≡◌, ℕ, ◌+◌, ◌*◌, ◌^◌, ◌≤◌, ◌<◌, length, drop};
-ghost use Rattle.book.specs.Records.{float, read_angles};
-ghost use Rattle.fields.specs.Answers.{number_field, pair_field, angles_field};
+ghost use Rattle.std.specs.Prelude.{◌≡◌, ℕ, ◌+◌, ◌*◌, ◌^◌, ◌≤◌, ◌<◌, false, ◌&&◌, leb, length, MatchOption};
+ghost use Rattle.book.specs.Records.{starts, number, float, read_angles, last};
+ghost use Rattle.fields.specs.Fields.{Holds, two_floats};
 
 use book::Angles;
-use heads::{number_at, starts_at};
-
-// What a field of one number answers.
-#[derive(Clone, Copy)]
-pub enum Field {
-    Number(u64, usize),
-    Missing,
-}
-
-// What a field of two floats answers.
-#[derive(Clone, Copy)]
-pub enum PairField {
-    Floats(f64, f64, usize),
-    Missing,
-}
-
-// What a field of the eight numbers of U answers.
-#[derive(Clone, Copy)]
-pub enum AnglesField {
-    Angles(Angles, usize),
-    Missing,
-}
+use heads::{field, number};
 
 // A number has at most so many bytes.
 const WIDEST: usize = 8;
 
-// The field of one number that is listed at the place. A field of more than 8 bytes holds none.
-pub fn number_field(bytes: &[u8], at: usize, tag: u8, width: usize) -> Field
-    ensures is { result ≡ number_field tag width at bytes.now }
-    ensures small { (n behind : ℕ) → result ≡ Field.Number n behind → n < 256 ^ width }
+// The field of one number. A field of more than 8 bytes holds none.
+pub fn number_field(bytes: &[u8], tag: u8, width: usize) -> Option<(u64, &[u8])>
+    ensures is { MatchOption result (leb width 8 && starts tag width bytes.now ≡ false) (λ p. Holds number tag width bytes.now p.0 p.1.now) }
+    ensures small { MatchOption result (Unit {0}) (λ p. p.0 < 256 ^ width) }
 {
     if WIDEST < width {
-        return Field::Missing;
+        return None;
     }
-    if starts_at(bytes, at, tag, width) {
-        Field::Number(number_at(bytes, at + 3, width), at + (3 + width))
-    } else {
-        Field::Missing
-    }
+    let (contents, rest) = field(bytes, tag, width)?;
+    Some((number(contents), rest))
 }
 
-// The f64 at the place that is i floats behind the start.
-fn float_at(bytes: &[u8], start: usize, i: usize) -> f64
-    requires { (i < 8) × (start + 8 * i + 8 ≤ length bytes.now) }
-    ensures { result ≡ float (drop start bytes.now) i }
+// The f64 that is i floats behind the start.
+fn float_at(contents: &[u8], i: usize) -> f64
+    requires { (i < 8) × (8 * i + 8 ≤ length contents.now) }
+    ensures { result ≡ float contents.now i }
 {
-    wire::float_of(number_at(bytes, start + 8 * i, 8))
+    wire::float_of(number(&contents[8 * i..8 * i + 8]))
 }
 
-// The field of two floats that is listed at the place.
-pub fn pair_field(bytes: &[u8], at: usize, tag: u8) -> PairField
-    ensures { result ≡ pair_field tag at bytes.now }
+// The field of two floats.
+pub fn pair_field(bytes: &[u8], tag: u8) -> Option<((f64, f64), &[u8])>
+    ensures { MatchOption result (starts tag 16 bytes.now ≡ false) (λ p. Holds two_floats tag 16 bytes.now p.0 p.1.now) }
 {
-    if starts_at(bytes, at, tag, 16) {
-        PairField::Floats(
-            float_at(bytes, at + 3, 0),
-            float_at(bytes, at + 3, 1),
-            at + 19,
-        )
-    } else {
-        PairField::Missing
-    }
+    let (contents, rest) = field(bytes, tag, 16)?;
+    Some(((float_at(contents, 0), float_at(contents, 1)), rest))
 }
 
-// The eight floats from the place on.
-fn angles_at(bytes: &[u8], at: usize) -> Angles
-    requires { at + 64 ≤ length bytes.now }
-    ensures { result ≡ read_angles (drop at bytes.now) }
+// The eight floats of U.
+fn angles_of(contents: &[u8]) -> Angles
+    requires { 64 ≤ length contents.now }
+    ensures { result ≡ read_angles contents.now }
 {
     Angles {
-        ct: float_at(bytes, at, 0),
-        st: float_at(bytes, at, 1),
-        cl: float_at(bytes, at, 2),
-        sl: float_at(bytes, at, 3),
-        cpl: float_at(bytes, at, 4),
-        spl: float_at(bytes, at, 5),
-        cp: float_at(bytes, at, 6),
-        sp: float_at(bytes, at, 7),
+        ct: float_at(contents, 0),
+        st: float_at(contents, 1),
+        cl: float_at(contents, 2),
+        sl: float_at(contents, 3),
+        cpl: float_at(contents, 4),
+        spl: float_at(contents, 5),
+        cp: float_at(contents, 6),
+        sp: float_at(contents, 7),
     }
 }
 
-// The field of eight floats that is listed at the place.
-pub fn angles_field(bytes: &[u8], at: usize, tag: u8) -> AnglesField
-    ensures { result ≡ angles_field tag at bytes.now }
+// The field of eight floats.
+pub fn angles_field(bytes: &[u8], tag: u8) -> Option<(Angles, &[u8])>
+    ensures { MatchOption result (starts tag 64 bytes.now ≡ false) (λ p. Holds read_angles tag 64 bytes.now p.0 p.1.now) }
 {
-    if starts_at(bytes, at, tag, 64) {
-        AnglesField::Angles(angles_at(bytes, at + 3), at + 67)
-    } else {
-        AnglesField::Missing
-    }
+    let (contents, rest) = field(bytes, tag, 64)?;
+    Some((angles_of(contents), rest))
+}
+
+// This, if nothing follows.
+pub fn last<T: Copy>(rest: &[u8], it: T) -> Option<T>
+    ensures { result ≡ last rest.now it }
+{
+    if rest.is_empty() { Some(it) } else { None }
 }

@@ -1,11 +1,11 @@
 -- A record as six whole numbers and eight floats. Definitions only. Assumes nothing.
-use Rattle.std.specs.Prelude.{ℕ, Bool, cond, ◌||◌, List, [], ◌∷◌, ◌++◌, ◌≡◌, ltb, Float, length, drop}
-use Rattle.book.specs.Answers.{taken, refused, says}
+use Rattle.std.specs.Prelude.{ℕ, Bool, cond, ◌||◌, List, [], ◌∷◌, ◌++◌, ◌≡◌, ltb, Float, length, drop, Result}
+use Rattle.book.specs.Answers.{gives, denied, gives_of}
 use Rattle.book.specs.Gates.{nought, angles_of}
 use Rattle.book.specs.Records.{parts_of}
 use Rattle.book.specs.declared.Angles.{Angles}
-use Rattle.book.specs.declared.Answer.{Answer}
 use Rattle.book.specs.declared.Record.{Record}
+use Rattle.book.specs.declared.Refusal.{Refusal}
 use Rattle.book.specs.declared.Shape.{Shape}
 use Rattle.book.specs.declared.Shape.TheVariants.{Plain, Angled, Eight, Second, Forced, Noisy}
 use Rattle.flat.specs.declared.Flat.{Flat}
@@ -47,7 +47,7 @@ unfoldable pub too_few : List ℕ → List Float → Bool
 too_few fs xs = ltb (length fs) 6 || ltb (length xs) 8
 
 -- A record's numbers put into lent places: refusal 12 where there are too few, and then nothing changes.
-pub record Puts (r : Record) (fs : List ℕ) (xs : List Float) (answer : Answer) (fs' : List ℕ) (xs' : List Float) : Type 0 where
-  pub answers : says answer ≡ cond (too_few fs xs) (refused 12) taken
+pub record Puts (r : Record) (fs : List ℕ) (xs : List Float) (answer : Result Unit Refusal) (fs' : List ℕ) (xs' : List Float) : Type 0 where
+  pub answers : gives_of answer ≡ cond (too_few fs xs) (denied 12) (gives tt)
   pub fields : fs' ≡ cond (too_few fs xs) fs (over (flat_fields r) fs)
   pub numbers : xs' ≡ cond (too_few fs xs) xs (over (flat_numbers r) xs)

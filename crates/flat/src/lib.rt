@@ -2,9 +2,9 @@
 #![tactic(auto)]
 
 ghost use Rattle.std.specs.Prelude.{◌≡◌, ◌≤◌, length};
-ghost use Rattle.flat.specs.Numbers.{two, laid, flat_of, over, flat_fields, flat_numbers, too_few, Puts};
+ghost use Rattle.flat.specs.Numbers.{two, laid, flat_of, over, flat_fields, flat_numbers, Puts};
 
-use book::{Angles, Answer, Record, Refusal, Shape};
+use book::{Angles, Parts, Record, Refusal, Shape};
 use shapes::parts_of;
 
 // How many places a record's numbers take.
@@ -60,59 +60,44 @@ fn flat_of(shape: Shape) -> Flat
     }
 }
 
-// Fewer places than a record's numbers take.
-pub fn too_few(fields: &[u32], numbers: &[f64]) -> bool
-    ensures { result ≡ too_few fields.now numbers.now }
-{
-    if fields.len() < FIELDS {
-        return true;
-    }
-    numbers.len() < NUMBERS
-}
-
 fn put_fields(it: Record, fields: &mut [u32])
     requires { 6 ≤ length fields.old }
     ensures { fields.new ≡ over (flat_fields it) fields.old }
 {
-    let gate = it.gate;
-    let parts = parts_of(gate);
-    let shape = parts.shape;
+    let Parts {
+        code,
+        target,
+        shape,
+    } = parts_of(it.gate);
     let flat = flat_of(shape);
-    fields[0] = it.session;
-    fields[1] = it.number as u32;
-    fields[2] = parts.code as u32;
-    fields[3] = parts.target as u32;
-    fields[4] = flat.second;
-    fields[5] = flat.reset;
+    fields[..FIELDS].copy_from_slice(&[
+        it.session,
+        it.number as u32,
+        code as u32,
+        target as u32,
+        flat.second,
+        flat.reset,
+    ]);
 }
 
 fn put_numbers(it: Record, numbers: &mut [f64])
     requires { 8 ≤ length numbers.old }
     ensures { numbers.new ≡ over (flat_numbers it) numbers.old }
 {
-    let gate = it.gate;
-    let parts = parts_of(gate);
-    let shape = parts.shape;
-    let flat = flat_of(shape);
-    let eight = flat.numbers;
-    numbers[0] = eight.ct;
-    numbers[1] = eight.st;
-    numbers[2] = eight.cl;
-    numbers[3] = eight.sl;
-    numbers[4] = eight.cpl;
-    numbers[5] = eight.spl;
-    numbers[6] = eight.cp;
-    numbers[7] = eight.sp;
+    let parts = parts_of(it.gate);
+    let g = flat_of(parts.shape).numbers;
+    numbers[..NUMBERS].copy_from_slice(&[g.ct, g.st, g.cl, g.sl, g.cpl, g.spl, g.cp, g.sp]);
 }
 
 // A record's numbers, into the first places; refusal 12 where there are too few.
-pub fn put_record(it: Record, fields: &mut [u32], numbers: &mut [f64]) -> Answer
+#[tactic(auto, unfolding(crate::specs::Numbers::too_few))]
+pub fn put_record(it: Record, fields: &mut [u32], numbers: &mut [f64]) -> Result<(), Refusal>
     ensures { Puts it fields.old numbers.old result fields.new numbers.new }
 {
-    if too_few(fields, numbers) {
-        return Answer::Refused(Refusal::Room);
+    if fields.len() < FIELDS || numbers.len() < NUMBERS {
+        return Err(Refusal::Room);
     }
     put_fields(it, fields);
     put_numbers(it, numbers);
-    Answer::Taken
+    Ok(())
 }

@@ -19,18 +19,17 @@ pub enum Next {
 const FRAME: u8 = 0x20;
 
 // A frame of this length, of which so many bytes are there, tag and length with them.
-fn sized(have: usize, len: u64) -> Next
+fn sized(have: usize, len: usize) -> Next
     requires { len < 65536 }
     ensures { result ≡ sized have len }
 {
-    let contents = len as usize;
-    if MOST_BYTES < contents {
-        return Next::Over(contents);
+    if MOST_BYTES < len {
+        return Next::Over(len);
     }
-    if have < 3 + contents {
+    if have < 3 + len {
         return Next::More;
     }
-    Next::Whole(contents)
+    Next::Whole(len)
 }
 
 // A byte of a frame that came in two parts.
@@ -59,7 +58,6 @@ pub fn next_frame(first: &[u8], second: &[u8]) -> Next
     if have < 3 {
         return Next::More;
     }
-    let high = byte_at(first, second, 1) as u64;
-    let low = byte_at(first, second, 2) as u64;
-    sized(have, high * 256 + low)
+    let len = [byte_at(first, second, 1), byte_at(first, second, 2)];
+    sized(have, usize::from(u16::from_be_bytes(len)))
 }

@@ -1,63 +1,48 @@
 // A record from its six whole numbers and eight floats. Places that a gate has no number for are not looked at.
 #![tactic(auto)]
 
-ghost use Rattle.std.specs.Prelude.{◌≡◌, ◌≤◌, length};
-ghost use Rattle.book.specs.Answers.{or_denied};
-ghost use Rattle.book.specs.Records.{row_of, read_says};
-ghost use Rattle.shapes.specs.Gates.{made_of};
+ghost use Rattle.std.specs.Prelude.{◌≡◌};
+ghost use Rattle.book.specs.Answers.{gives_of, or_denied};
+ghost use Rattle.book.specs.Records.{row_of};
 ghost use Rattle.from_flat.specs.Records.{numbers_at, swap_of, measure_of, gate_of, record_of};
 
-use book::{Angle, Angles, Controls, Forced, Gate, Noise, Read, Record, Refusal};
-use flat::too_few;
-use shapes::{Made, angled_gate, plain_gate};
+use book::{Angle, Angles, Controls, Forced, Gate, Noise, Record, Refusal};
 
-fn numbers_at(numbers: &[f64]) -> Angles
-    requires { 8 ≤ length numbers.now }
+fn numbers_at(numbers: &[f64; 8]) -> Angles
     ensures { result ≡ numbers_at numbers.now }
 {
+    let [ct, st, cl, sl, cpl, spl, cp, sp] = *numbers;
     Angles {
-        ct: numbers[0],
-        st: numbers[1],
-        cl: numbers[2],
-        sl: numbers[3],
-        cpl: numbers[4],
-        spl: numbers[5],
-        cp: numbers[6],
-        sp: numbers[7],
+        ct,
+        st,
+        cl,
+        sl,
+        cpl,
+        spl,
+        cp,
+        sp,
     }
 }
 
 // SWAP's second qubit is a byte.
-fn swap_of(target: u8, second: u32) -> Made
-    ensures { result ≡ made_of (swap_of target second) }
+fn swap_of(target: u8, second: u32) -> Option<Gate>
+    ensures { result ≡ swap_of target second }
 {
-    if 255 < second {
-        return Made::Missing;
-    }
-    Made::Gate(Gate::Swap(target, second as u8))
+    let second = u8::try_from(second).ok()?;
+    Some(Gate::Swap(target, second))
 }
 
 // A measurement's outcome and reset are bytes.
-fn measure_of(target: u8, outcome: u32, reset: u32) -> Made
-    ensures { result ≡ made_of (measure_of target outcome reset) }
+fn measure_of(target: u8, outcome: u32, reset: u32) -> Option<Gate>
+    ensures { result ≡ measure_of target outcome reset }
 {
-    if 255 < outcome {
-        return Made::Missing;
-    }
-    if 255 < reset {
-        return Made::Missing;
-    }
-    Made::Gate(Gate::Measure(
-        target,
-        Forced {
-            outcome: outcome as u8,
-            reset: reset as u8,
-        },
-    ))
+    let outcome = u8::try_from(outcome).ok()?;
+    let reset = u8::try_from(reset).ok()?;
+    Some(Gate::Measure(target, Forced { outcome, reset }))
 }
 
-fn gate_of(code: u32, target: u8, second: u32, reset: u32, g: Angles) -> Made
-    ensures { result ≡ made_of (gate_of (row_of code) target second reset g) }
+fn gate_of(code: u32, target: u8, second: u32, reset: u32, g: Angles) -> Option<Gate>
+    ensures { result ≡ gate_of (row_of code) target second reset g }
 {
     let c = Controls::of(second);
     let angle = Angle {
@@ -69,38 +54,42 @@ fn gate_of(code: u32, target: u8, second: u32, reset: u32, g: Angles) -> Made
         draw: g.st,
     };
     match code {
-        1 | 2 | 3 | 4 => Made::Gate(plain_gate(code, target, c)),
-        5 | 6 | 7 | 8 => Made::Gate(angled_gate(code, target, c, angle)),
-        9 => Made::Gate(Gate::U(target, c, g)),
+        1 => Some(Gate::H(target, c)),
+        2 => Some(Gate::X(target, c)),
+        3 => Some(Gate::Y(target, c)),
+        4 => Some(Gate::Z(target, c)),
+        5 => Some(Gate::P(target, c, angle)),
+        6 => Some(Gate::Rx(target, c, angle)),
+        7 => Some(Gate::Ry(target, c, angle)),
+        8 => Some(Gate::Rz(target, c, angle)),
+        9 => Some(Gate::U(target, c, g)),
         10 => swap_of(target, second),
         11 => measure_of(target, second, reset),
-        12 => Made::Gate(Gate::BitFlip(target, noise)),
-        _ => Made::Missing,
+        12 => Some(Gate::BitFlip(target, noise)),
+        _ => None,
     }
 }
 
-// The record that the first places are, or refusal 8.
-pub fn record_of(fields: &[u32], numbers: &[f64]) -> Read
-    ensures { read_says result ≡ or_denied 8 (record_of fields.now numbers.now) }
+// The record that the first places are.
+#[tactic(auto, unfolding(crate::specs::Records::record_of, flat::specs::Numbers::too_few))]
+fn read_places(fields: &[u32], numbers: &[f64]) -> Option<Record>
+    ensures { result ≡ record_of fields.now numbers.now }
 {
-    if too_few(fields, numbers) {
-        return Read::Refused(Refusal::Record);
-    }
-    let number = fields[1];
-    if 65535 < number {
-        return Read::Refused(Refusal::Record);
-    }
-    let target = fields[3];
-    if 255 < target {
-        return Read::Refused(Refusal::Record);
-    }
-    let eight = numbers_at(numbers);
-    let Made::Gate(gate) = gate_of(fields[2], target as u8, fields[4], fields[5], eight) else {
-        return Read::Refused(Refusal::Record);
-    };
-    Read::Record(Record {
-        session: fields[0],
-        number: number as u16,
+    let [session, number, code, target, second, reset] = *fields.first_chunk::<6>()?;
+    let eight = numbers_at(numbers.first_chunk::<8>()?);
+    let number = u16::try_from(number).ok()?;
+    let target = u8::try_from(target).ok()?;
+    let gate = gate_of(code, target, second, reset, eight)?;
+    Some(Record {
+        session,
+        number,
         gate,
     })
+}
+
+// It, or refusal 8.
+pub fn record_of(fields: &[u32], numbers: &[f64]) -> Result<Record, Refusal>
+    ensures { gives_of result ≡ or_denied 8 (record_of fields.now numbers.now) }
+{
+    read_places(fields, numbers).ok_or(Refusal::Record)
 }

@@ -1,2 +1,2 @@
--- Reading: a header by the tests of the code.
+-- Reading: eight bytes are enough for a header.
 pub mod Reading

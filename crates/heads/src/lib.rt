@@ -1,38 +1,36 @@
-// The number that bytes are, and whether a field of a tag and a length stands at a place.
+// The number that bytes are, and the field of a tag and a length that stands at their start.
 // An inner room: its callers are proved to have the bytes that are asked.
 #![tactic(auto)]
 
-ghost use Rattle.std.specs.Prelude.{◌≡◌, ◌+◌, ◌^◌, ◌≤◌, ◌<◌, length, take, drop};
+ghost use Rattle.std.specs.Prelude.{◌≡◌, ◌^◌, ◌≤◌, ◌<◌, false, length, MatchOption};
 ghost use Rattle.book.specs.Records.{number, starts};
+ghost use Rattle.heads.specs.Fields.{Listed};
 
-// The number that as many bytes as the width are, the first the highest.
-pub fn number_at(bytes: &[u8], at: usize, width: usize) -> u64
-    requires { (width ≤ 8) × (at + width ≤ length bytes.now) }
-    ensures { (result ≡ number (take width (drop at bytes.now))) × (result < 256 ^ width) }
+// The number that up to 8 bytes are, the first the highest.
+pub fn number(bytes: &[u8]) -> u64
+    requires { length bytes.now ≤ 8 }
+    ensures { (result ≡ number bytes.now) × (result < 256 ^ length bytes.now) }
 {
     let mut n: u64 = 0;
-    let mut i: usize = 0;
-    while i < width {
-        let byte = bytes[at + i] as u64;
-        n = n * 256 + byte;
-        i += 1;
+    for byte in bytes {
+        n = n * 256 + *byte as u64;
     }
     n
 }
 
-// Whether a field of this tag and this length stands at the place.
-pub fn starts_at(bytes: &[u8], at: usize, tag: u8, len: usize) -> bool
+// What the field of this tag and this length holds, if it stands at the start, and what follows it.
+pub fn field(bytes: &[u8], tag: u8, len: usize) -> Option<(&[u8], &[u8])>
     requires { len ≤ 64 }
-    ensures { result ≡ starts tag len (drop at bytes.now) }
+    ensures { MatchOption result (starts tag len bytes.now ≡ false) (λ p. Listed tag len bytes.now p.0.now p.1.now) }
 {
-    if bytes.len() < at {
-        return false;
+    if bytes.len() < 3 + len {
+        return None;
     }
-    if bytes.len() - at < 3 + len {
-        return false;
+    if bytes[0] != tag {
+        return None;
     }
-    if bytes[at] != tag {
-        return false;
+    if number(&bytes[1..3]) != len as u64 {
+        return None;
     }
-    number_at(bytes, at + 1, 2) == len as u64
+    Some((&bytes[3..3 + len], &bytes[3 + len..]))
 }

@@ -1,73 +1,47 @@
-// The fields behind 04 of a gate that has a control mask, codes 1 to 9, from a place of the bytes on. Each field hands on the place behind it.
-#![tactic(auto)]
+// What stands behind 04 of a gate that has a control mask, codes 1 to 9. Where gates share a code's shape, it is what each is made of. Nothing may follow.
+#![tactic(auto, unfolding(book::specs::Records::listed))]
 
-ghost use Rattle.std.specs.Prelude.{◌≡◌, drop};
-ghost use Rattle.book.specs.Records.{plain, angled, eight, read_row};
-ghost use Rattle.shapes.specs.Gates.{made_of, plain_gate, angled_gate};
-ghost use Rattle.masked.specs.Masks.{mask_answer};
+ghost use Rattle.std.specs.Prelude.{◌≡◌, ℕ, false, MatchOption, option_map};
+ghost use Rattle.book.specs.Records.{plain, angled, eight, starts, read_row};
+ghost use Rattle.book.specs.declared.Angle.{Angle};
+ghost use Rattle.book.specs.declared.Controls.{Controls};
+ghost use Rattle.book.specs.declared.Gate.{Gate as AnyGate};
+ghost use Rattle.fields.specs.Fields.{Holds};
+ghost use Rattle.masked.specs.Masks.{mask};
 
 use book::{Angle, Controls, Gate};
-use fields::{AnglesField, Field, PairField, angles_field, number_field, pair_field};
-use shapes::{Made, angled_gate, plain_gate};
+use fields::{angles_field, last, number_field, pair_field};
 
-// What the field of the mask answers.
-#[derive(Clone, Copy)]
-pub enum MaskField {
-    Controls(Controls, usize),
-    Missing,
+// Field 05, and what follows it.
+fn mask_field(bytes: &[u8]) -> Option<(Controls, &[u8])>
+    ensures { MatchOption result (starts 0x05 4 bytes.now ≡ false) (λ p. Holds mask 0x05 4 bytes.now p.0 p.1.now) }
+{
+    let (mask, rest) = number_field(bytes, 0x05, 4)?;
+    Some((Controls::of(mask as u32), rest))
 }
 
-// Field 05.
-fn mask_field(bytes: &[u8], at: usize) -> MaskField
-    ensures { result ≡ mask_answer at bytes.now }
+// Codes 1 to 4: the mask.
+pub fn read_plain(bytes: &[u8]) -> Option<Controls>
+    ensures { (g : ℕ → Controls → AnyGate) (t : ℕ) → option_map (g t) result ≡ read_row (plain g) t bytes.now }
 {
-    let Field::Number(mask, behind) = number_field(bytes, at, 0x05, 4) else {
-        return MaskField::Missing;
-    };
-    MaskField::Controls(Controls::of(mask as u32), behind)
+    let (controls, rest) = mask_field(bytes)?;
+    last(rest, controls)
 }
 
-// Codes 1 to 4: the mask, and nothing after.
-pub fn read_plain(bytes: &[u8], at: usize, code: u32, target: u8) -> Made
-    ensures { result ≡ made_of (read_row (plain (plain_gate code)) target (drop at bytes.now)) }
+// Codes 5 to 8: the mask, cosine and sine.
+pub fn read_angled(bytes: &[u8]) -> Option<(Controls, Angle)>
+    ensures { (g : ℕ → Controls → Angle → AnyGate) (t : ℕ) → option_map (λ p. g t p.0 p.1) result ≡ read_row (angled g) t bytes.now }
 {
-    let MaskField::Controls(controls, behind) = mask_field(bytes, at) else {
-        return Made::Missing;
-    };
-    if bytes.len() != behind {
-        return Made::Missing;
-    }
-    Made::Gate(plain_gate(code, target, controls))
+    let (controls, rest) = mask_field(bytes)?;
+    let ((cosine, sine), rest) = pair_field(rest, 0x07)?;
+    last(rest, (controls, Angle { cosine, sine }))
 }
 
-// Codes 5 to 8: the mask, cosine and sine, and nothing after.
-pub fn read_angled(bytes: &[u8], at: usize, code: u32, target: u8) -> Made
-    ensures { result ≡ made_of (read_row (angled (angled_gate code)) target (drop at bytes.now)) }
+// Code 9: the mask, the eight numbers of U.
+pub fn read_u(bytes: &[u8], target: u8) -> Option<Gate>
+    ensures { result ≡ read_row (eight Gate.U) target bytes.now }
 {
-    let MaskField::Controls(controls, next) = mask_field(bytes, at) else {
-        return Made::Missing;
-    };
-    let PairField::Floats(cosine, sine, end) = pair_field(bytes, next, 0x07) else {
-        return Made::Missing;
-    };
-    if bytes.len() != end {
-        return Made::Missing;
-    }
-    Made::Gate(angled_gate(code, target, controls, Angle { cosine, sine }))
-}
-
-// Code 9: the mask, the eight numbers of U, and nothing after.
-pub fn read_u(bytes: &[u8], at: usize, target: u8) -> Made
-    ensures { result ≡ made_of (read_row (eight Gate.U) target (drop at bytes.now)) }
-{
-    let MaskField::Controls(controls, next) = mask_field(bytes, at) else {
-        return Made::Missing;
-    };
-    let AnglesField::Angles(angles, behind) = angles_field(bytes, next, 0x08) else {
-        return Made::Missing;
-    };
-    if bytes.len() != behind {
-        return Made::Missing;
-    }
-    Made::Gate(Gate::U(target, controls, angles))
+    let (controls, rest) = mask_field(bytes)?;
+    let (angles, rest) = angles_field(rest, 0x08)?;
+    last(rest, Gate::U(target, controls, angles))
 }

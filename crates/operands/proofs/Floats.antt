@@ -4,7 +4,7 @@ use mathlib.Core.Logic.{◌⊎◌, inl, inr}
 use Prim.Native.Nat.{ℕ, suc, ◌+◌, ◌*◌, ◌/◌, ◌%◌, ◌^◌, ◌<◌}
 use native.Mathlib.Nat.{mul-one, zero-mul, mul-pos, eq-zero-or-pos, zero-lt-suc}
 use native.Mathlib.Omega.{arith}
-use mathlib.Core.Bool.{Bool, true, false, not, cond, ◌&&◌, ◌||◌, beq, true≢false}
+use mathlib.Core.Bool.{Bool, true, false, not, cond, ◌&&◌, ◌||◌, beq}
 use borrow.Author.Tests.{eq-eqb, ne_eqb, eqb-true, eqb-false}
 use lib.IntN.{pos}
 use lib.Dec.{T, leb, eqb}
@@ -13,8 +13,7 @@ use lib.Ieee.{of_fields, of_bits, to_bits}
 use lib.Ieee.Fits.{up_pos}
 use lib.Ieee.Bits.{of_bits-to_bits}
 use lib.Ieee.Exact.{HasValue, odd_sign}
-use lib.Ieee.Scale.{finite}
-use Rattle.operands.specs.Operands.{is_zero, ordinary, Unpacked}
+use Rattle.operands.specs.Operands.{is_zero, ordinary}
 
 -- ---- the tests
 pub zero_is : of_bits binary64 0 ≡ fin false 0 (pos 0)
@@ -45,16 +44,6 @@ zero_test_is (fin s m e) = zero_test s (m * up e * 1) (0 * down e) (zero-mul (do
     go : (m ≡ 0) ⊎ (0 < m) → eqb (m * up e * 1) 0 ≡ eqb m 0
     go (inl h) = eq-eqb (m * up e * 1) 0 (mul-one (m * up e) ∙ ap (λ (y : ℕ). y * up e) h ∙ zero-mul (up e)) ∙ sym (eq-eqb m 0 h)
     go (inr h) = ne_eqb (m * up e * 1) 0 (no (m * up e * 1) (mul-pos (mul-pos h (up_pos e)) (zero-lt-suc 0))) ∙ sym (ne_eqb m 0 (no m h))
-
-pub ordinary_yes : (x : Float) → finite x ≡ true → not (is_zero x) ≡ ordinary x
-ordinary_yes nan h = sym h
-ordinary_yes (inf s) h = sym h
-ordinary_yes (fin s m e) h = refl
-
-pub ordinary_no : (x : Float) → finite x ≡ false → false ≡ ordinary x
-ordinary_no nan h = refl
-ordinary_no (inf s) h = refl
-ordinary_no (fin s m e) h = absurd (true≢false h)
 
 pub ordinary_number : (x : Float) → T (ordinary x) → T (not (is_nan x))
 unfolding is_nan
@@ -129,37 +118,9 @@ some m t = go (eq-zero-or-pos m)
     go (inl e) = absurd (subst (λ (b : Bool). T (not b)) (eq-eqb m 0 e) t)
     go (inr l) = l
 
--- ---- an operand that was taken apart: it is ordinary where m is not 0
-pub was_ordinary : {f : Format} {x : Float} {s : Bool} {m e : ℕ} → Unpacked f x s m e → (m ≡ 0 → ⊥) → T (ordinary x)
-was_ordinary {f} {x} {s} {m} u h = go (ordinary x) u.none
-  where
-    go : (b : Bool) → (T (not b) → m ≡ 0) → T b
-    go true k = tt
-    go false k = absurd (h (k tt))
-
-pub not_ordinary : {f : Format} {x : Float} {s : Bool} {m e : ℕ} → Unpacked f x s m e → m ≡ 0 → T (ordinary x) → ⊥
-not_ordinary {f} {x} {s} {m} u z o = no m z (u.fields o).some
-  where
-    no : (m : ℕ) → m ≡ 0 → 0 < m → ⊥
-    no m e h = omega arith
-
-pub never : (b : Bool) → T (not b) → T b → ⊥
-never true n h = n
-never false n h = h
-
 -- ---- what a call answered, by the test that follows it
 pub yes : {r b : Bool} → r ≡ b → r ≡ true → T b
 yes e h = subst T (sym h ∙ e) tt
 
 pub no : {r b : Bool} → r ≡ b → r ≡ false → T (not b)
 no e h = subst (λ (x : Bool). T (not x)) (sym h ∙ e) tt
-
-pub not_yes : {r b : Bool} → r ≡ b → not r ≡ true → T (not b)
-not_yes e h = subst T (sym h ∙ ap not e) tt
-
-pub not_no : {r b : Bool} → r ≡ b → not r ≡ false → T b
-not_no {r} {b} e h = go b (sym (ap not e) ∙ h)
-  where
-    go : (b : Bool) → not b ≡ false → T b
-    go true h = tt
-    go false h = absurd (true≢false h)

@@ -1,8 +1,7 @@
 -- What is told of an operand: whether it is zero or an ordinary number, and such a number's fields, over a format f. Definitions only. Assumes nothing.
-use Rattle.std.specs.Prelude.{◌≡◌, ℕ, ◌*◌, ◌^◌, ◌≤◌, ◌<◌, Bool, false, not, T, eqb, Float}
+use Rattle.std.specs.Prelude.{ℕ, ◌*◌, ◌^◌, ◌≤◌, ◌<◌, Bool, false, not, eqb, Float}
 use Rattle.std.specs.Float.{nan, inf, fin, Format}
-use Rattle.std.specs.Float.Ieee.{prec, emax, low, hid}
-use Rattle.std.specs.Float.Ieee.Exact.{HasValue}
+use Rattle.std.specs.Float.Ieee.{prec, emax, hid}
 
 -- ---- tests: a zero of either sign; and a number that is finite and not zero
 abbrev pub is_zero : Float → Bool
@@ -21,9 +20,3 @@ pub record Fields (f : Format) (m e : ℕ) : Type 0 where
   pub most : m < 2 ^ prec f
   pub full : 0 < e → hid f ≤ m
   pub near : e < 2 * emax f
-
--- x taken apart: an ordinary number's sign and fields, and of any other operand m is 0
-pub record Unpacked (f : Format) (x : Float) (s : Bool) (m e : ℕ) : Type 0 where
-  pub value : T (ordinary x) → HasValue x s (m * 2 ^ e) (2 ^ low f)
-  pub fields : T (ordinary x) → Fields f m e
-  pub none : T (not (ordinary x)) → m ≡ 0

@@ -1,12 +1,12 @@
 // A float as an operand: whether it is finite, whether it is an ordinary number (finite and not zero), and such a number taken apart.
 #![tactic(auto)]
 
-ghost use Rattle.std.specs.Prelude.{◌≡◌, ◌*◌, ◌^◌, T};
+ghost use Rattle.std.specs.Prelude.{◌≡◌, ◌*◌, ◌^◌, T, not, MatchOption};
 ghost use Rattle.std.specs.Float.{binary64};
 ghost use Rattle.std.specs.Float.Ieee.{low};
 ghost use Rattle.std.specs.Float.Ieee.Exact.{HasValue};
 ghost use Rattle.std.specs.Float.Ieee.Scale.{finite};
-ghost use Rattle.operands.specs.Operands.{is_zero, ordinary, Fields, Unpacked};
+ghost use Rattle.operands.specs.Operands.{is_zero, ordinary, Fields};
 
 use numbers::{HIDDEN, SIGN};
 
@@ -27,7 +27,7 @@ fn is_zero(x: f64) -> bool
 pub fn is_ordinary(x: f64) -> bool
     ensures { result ≡ ordinary x }
 {
-    if is_finite(x) { !is_zero(x) } else { false }
+    is_finite(x) && !is_zero(x)
 }
 
 // The processor has many NaN, and makes one with a sign; the logic has one. So where one may arise, the literal stands in its place: the compiler works
@@ -38,49 +38,45 @@ pub fn with_one_nan(x: f64) -> f64
     if x != x { 0.0 / 0.0 } else { x }
 }
 
-// m * 2^e smallest values, with a sign.
+// An ordinary number: m * 2^e smallest values, with a sign.
 #[derive(Clone, Copy)]
 pub struct Number {
     pub neg: bool,
     pub m: u64,
     pub e: u64,
+    ghost fields: { Fields binary64 m e },
 }
 
 // A subnormal number has no leading digit of its own, and the exponent of the smallest normal ones.
 fn fields(x: f64) -> Number
     requires { T (ordinary x) }
-    ensures { (HasValue x result.neg (result.m * 2 ^ result.e) (2 ^ low binary64)) × Fields binary64 result.m result.e }
+    ensures { HasValue x result.neg (result.m * 2 ^ result.e) (2 ^ low binary64) }
 {
     let bits = f64::to_bits(x);
     let neg = SIGN <= bits;
     let field = bits % SIGN / HIDDEN;
     let digits = bits % HIDDEN;
     if field == 0 {
-        Number {
-            neg: neg,
+        return Number {
+            neg,
             m: digits,
             e: 0,
-        }
-    } else {
-        Number {
-            neg: neg,
-            m: HIDDEN + digits,
-            e: field - 1,
-        }
+        };
+    }
+    Number {
+        neg,
+        m: HIDDEN + digits,
+        e: field - 1,
     }
 }
 
-// An ordinary number taken apart. Of any other operand m is 0.
-pub fn unpack(x: f64) -> Number
-    ensures { Unpacked binary64 x result.neg result.m result.e }
+// An ordinary number taken apart; any other operand is none.
+pub fn unpack(x: f64) -> Option<Number>
+    ensures { MatchOption result (T (not (ordinary x))) (λ p. T (ordinary x) × HasValue x p.neg (p.m * 2 ^ p.e) (2 ^ low binary64)) }
 {
     if is_ordinary(x) {
-        fields(x)
+        Some(fields(x))
     } else {
-        Number {
-            neg: false,
-            m: 0,
-            e: 0,
-        }
+        None
     }
 }

@@ -1,5 +1,8 @@
 -- The A lines from a place on. Assumes nothing.
-use Prim.Native.Nat.{ℕ, ◌+◌, ◌≤◌, ◌<◌}
+use Prim.Native.Nat.{ℕ, ◌+◌, ◌-◌, ◌≤◌, ◌<◌, min}
+use native.Mathlib.Nat.{eq-zero-or-pos}
+use native.Mathlib.Omega.{arith}
+use mathlib.Core.Logic.{⊎_elim}
 use native.Mathlib.Numerals.{add-one}
 use mathlib.Core.List.{List, [], ◌∷◌, ◌++◌}
 use mathlib.Core.Path.{◌≡◌, refl, ap, ◌∙◌}
@@ -18,11 +21,13 @@ module _ (xs ys : List Float) where
   abbrev pub lines_from : ℕ → List ℕ
   lines_from i = state_lines i (drop i xs) (drop i ys)
 
-  pub no_real : (i : ℕ) → length xs ≤ i → lines_from i ≡ []
-  no_real i h = ap (λ (zs : List Float). state_lines i zs (drop i ys)) (drop_of_length-le xs {i = i} h)
-
-  pub no_imaginary : (i : ℕ) → length ys ≤ i → lines_from i ≡ []
-  no_imaginary i h = ap (state_lines i (drop i xs)) (drop_of_length-le ys {i = i} h) ∙ state_bare i (drop i xs)
+  -- behind the last place of both there is none
+  pub none_left : (i : ℕ) → min (length xs) (length ys) ≤ i → lines_from i ≡ []
+  none_left i h =
+      ⊎_elim
+      (λ (few : length xs - i ≡ 0). ap (λ (zs : List Float). state_lines i zs (drop i ys)) (drop_of_length-le xs {i = i} (omega arith)))
+      (λ (more : 0 < length xs - i). ap (state_lines i (drop i xs)) (drop_of_length-le ys {i = i} (omega arith)) ∙ state_bare i (drop i xs))
+      (eq-zero-or-pos (length xs - i))
 
   pub line_next : (d : Float) (i : ℕ) → i < length xs → i < length ys → lines_from i ≡ amplitude_line i (get_or xs i d) (get_or ys i d) ++ lines_from (i + 1)
   line_next d i h k = rw (drop-cons xs i d h, drop-cons ys i d k) (rw add-one)

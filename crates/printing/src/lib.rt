@@ -34,12 +34,12 @@ pub fn put_bad_header(out: &mut [u8], at: usize) -> usize
 fn put_cut(out: &mut [u8], at: usize, cut: bool) -> usize
     ensures { Put (cond cut cut_line []) out.old at result out.new }
 {
-    let mut line = [0u8; 128];
-    if cut {
-        let n = stream::cut_line(&mut line);
-        return put(out, at, &line[..n]);
+    if !cut {
+        return put(out, at, b"");
     }
-    put(out, at, &line[..0])
+    let mut line = [0u8; 128];
+    let n = stream::cut_line(&mut line);
+    put(out, at, &line[..n])
 }
 
 // The A line of a place.
@@ -57,15 +57,8 @@ fn put_state(out: &mut [u8], at: usize, reals: &[f64], imags: &[f64]) -> usize
     ensures { Put (state_lines 0 reals.now imags.now) out.old at result out.new }
 {
     let mut next = at;
-    let mut place: usize = 0;
-    while place < reals.len() {
-        if imags.len() <= place {
-            return next;
-        }
-        let re = reals[place];
-        let im = imags[place];
-        next = put_place(out, next, place as u64, re, im);
-        place += 1;
+    for place in 0..reals.len().min(imags.len()) {
+        next = put_place(out, next, place as u64, reals[place], imags[place]);
     }
     next
 }

@@ -7,10 +7,9 @@ use Rattle.book.specs.Answers.{Buffers, replies}
 use Rattle.book.specs.Lent.{SameSize}
 use Rattle.book.specs.declared.Reply.{Reply}
 use Rattle.delivery_lines.specs.Deliveries.{delivery_line}
-use Rattle.feeding.proofs.Loop.{Left, begins, all_left, turn, uses, ends, none_taken, more}
+use Rattle.feeding.proofs.Loop.{Left, begins, turn, ends, none_taken, more}
 use Rattle.feeding.specs.Feeding.{Form, Takes, told_of}
-use Rattle.feeding.specs.declared.Told.{Told}
-use Rattle.feeding.specs.declared.Told.TheVariants.{Nothing, Reply as Replied}
+use Rattle.std.specs.Prelude.{Option, Some, None}
 use Rattle.once.specs.Answered.{Answered}
 use Rattle.puts.proofs.Puts.{put_then}
 use Rattle.printing.specs.Printed.{answer_lines}
@@ -54,12 +53,12 @@ lined_here : {i at : ℕ} {l : List ℕ} → i < 2 ^ 64 → at ≤ length l → 
 lined_here small within = lined_none small (omega arith)
 
 -- nothing is told, or one answer
-module _ (i count : ℕ) {told : Told} where
-  pub told_none : {at : ℕ} {l : List ℕ} → told ≡ Nothing → i < 2 ^ 64 → at ≤ length l
+module _ (i count : ℕ) {told : Option Reply} where
+  pub told_none : {at : ℕ} {l : List ℕ} → told ≡ None → i < 2 ^ 64 → at ≤ length l
       → Put (answer_lines i (told_of told count)) l at at l × (i ≡ (i + length (told_of told count)) % 2 ^ 64)
   told_none is small within = let lined = lined_here small within in rw is (lined.put, lined.index)
 
-  pub told_one : {x : Reply} {j at next : ℕ} {l l' : List ℕ} → told ≡ Replied x → Put (delivery_line i (replies x) count) l at next l'
+  pub told_one : {x : Reply} {j at next : ℕ} {l l' : List ℕ} → told ≡ Some x → Put (delivery_line i (replies x) count) l at next l'
       → j ≡ (i + 1) % 2 ^ 64 → Put (answer_lines i (told_of told count)) l at next l' × (j ≡ (i + length (told_of told count)) % 2 ^ 64)
   told_one is put number = rw is (rw append-nil put, number)
 
@@ -79,28 +78,24 @@ lined_then {i} {t = t} {u = u} small p q =
 
 -- ---- a piece
 
--- `done` bytes of the piece are taken, and the lines of their answers are put
-pub record Going (x : Run) (b : Buffers) (piece l : List ℕ) (at done : ℕ) (x' : Run) (b' : Buffers) (next : ℕ) (l' : List ℕ) : Type 0 where
+-- `rest` of the piece is left, and the lines of what was answered before are put
+pub record Going (x : Run) (b : Buffers) (piece l : List ℕ) (at : ℕ) (rest : List ℕ) (x' : Run) (b' : Buffers) (next : ℕ) (l' : List ℕ) : Type 0 where
   pub answers : List Answered
-  pub left : Left x.form b piece done answers x'.form b'
+  pub left : Left x.form b piece rest answers x'.form b'
   pub lined : Lined x.index answers l at x'.index next l'
 
-pub goes : {x : Run} {b : Buffers} {piece l : List ℕ} {at next : ℕ} → x.index < 2 ^ 64 → next ≡ min at (length l) → Going x b piece l at 0 x b next l
+pub goes : {x : Run} {b : Buffers} {piece l : List ℕ} {at next : ℕ} → x.index < 2 ^ 64 → next ≡ min at (length l) → Going x b piece l at piece x b next l
 goes {x} {b} {piece} small here = record { answers = []; left = begins x.form b piece; lined = lined_none small here }
 
--- one step: all that is left of the piece is lent
-module _ {x x₁ : Run} {b b₁ b₂ : Buffers} {piece l l₁ : List ℕ} {at at₁ done n : ℕ} {u : List Answered} {f : Form}
-    (g : Going x b piece l at done x₁ b₁ at₁ l₁) (takes : Takes x₁.form b₁ (take (length piece - done) (drop done piece)) n u f b₂) where
-  pub goes_far : done < length piece → 0 < n
-  goes_far some = uses (all_left piece done takes) (omega (arith, length-drop done piece))
+-- one step
+pub goes_on : {x x₁ : Run} {b b₁ b₂ : Buffers} {piece l l₁ l₂ rest behind : List ℕ} {at at₁ at₂ n i : ℕ} {u : List Answered} {f : Form}
+    → x.index < 2 ^ 64 → Going x b piece l at rest x₁ b₁ at₁ l₁ → Takes x₁.form b₁ rest n u f b₂ → behind ≡ drop n rest → SameSize b₁ b₂
+    → Lined x₁.index u l₁ at₁ i at₂ l₂ → Going x b piece l at behind (record { index = i; form = f }) b₂ at₂ l₂
+goes_on {u = u} small g takes back same lined =
+    record { answers = g.answers ++ u; left = turn g.left takes back same; lined = lined_then small g.lined lined }
 
-  pub goes_on : {i at₂ : ℕ} {l₂ : List ℕ} → x.index < 2 ^ 64 → SameSize b₁ b₂ → Lined x₁.index u l₁ at₁ i at₂ l₂
-      → Going x b piece l at (done + n) (record { index = i; form = f }) b₂ at₂ l₂
-  goes_on small same lined =
-      record { answers = g.answers ++ u; left = turn g.left (all_left piece done takes) same; lined = lined_then small g.lined lined }
-
-pub gone : {x x' : Run} {b b' : Buffers} {piece l l' : List ℕ} {at next done : ℕ}
-    → Going x b piece l at done x' b' next l' → length piece ≤ done → Prints x b piece l at x' b' next l'
+pub gone : {x x' : Run} {b b' : Buffers} {piece l l' rest : List ℕ} {at next : ℕ}
+    → Going x b piece l at rest x' b' next l' → rest ≡ [] → Prints x b piece l at x' b' next l'
 gone g past = record { answers = g.answers; takes = ends g.left past; put = g.lined.put; index = g.lined.index }
 
 -- ---- piece after piece

@@ -1,5 +1,5 @@
 -- What the program prints, from its input's bytes alone; and what a piece of the input adds. Definitions only. Assumes nothing.
-use Rattle.std.specs.Prelude.{◌≡◌, ℕ, ◌+◌, ◌%◌, ◌^◌, List, [], ◌++◌, length, drop, replicate}
+use Rattle.std.specs.Prelude.{◌≡◌, ℕ, ◌+◌, ◌%◌, ◌^◌, List, [], ◌++◌, length, drop, replicate, Option, Some, None}
 use Rattle.book.specs.Answers.{Buffers}
 use Rattle.book.specs.Sessions.{Session, deliver_all}
 use Rattle.book.specs.Sessions as Book
@@ -7,8 +7,6 @@ use Rattle.feeding.specs.Feeding.{Form, form, form_of, cuts, TakesAll}
 use Rattle.first_state.specs.First.{first_state}
 use Rattle.frames.specs.Streams.{begun, stream_of}
 use Rattle.headers.specs.Headers.{header_of}
-use Rattle.headers.specs.declared.Header.{Header}
-use Rattle.headers.specs.declared.Header.TheVariants.{Good, Bad}
 use Rattle.once.specs.AllOnce.{bench}
 use Rattle.once.specs.Answered.{Answered, answers_of}
 use Rattle.printing.specs.Printed.{answer_lines, closing}
@@ -24,9 +22,9 @@ lines_of s b bytes =
     answer_lines 0 (answers_of (bench s b) st.deliveries) ++ closing (cuts st.rest) end.session end.state
 
 -- or BAD HEADER alone
-abbrev pub printed_by : Header → List ℕ → List ℕ
-printed_by (Good n own) bytes = lines_of (Book.fresh n own) (first_state n) bytes
-printed_by Bad bytes = bad_header_line
+abbrev pub printed_by : Option (ℕ × ℕ) → List ℕ → List ℕ
+printed_by (Some h) bytes = lines_of (Book.fresh h.0 h.1) (first_state h.0) bytes
+printed_by None bytes = bad_header_line
 
 unfoldable pub printed : List ℕ → List ℕ
 printed input = printed_by (header_of input) (drop 8 input)

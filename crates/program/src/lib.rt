@@ -9,7 +9,9 @@ ghost use Rattle.printing.specs.Printed.{answer_lines, closing};
 ghost use Rattle.puts.specs.Put.{Put};
 ghost use Rattle.program.specs.Program.{fresh, run_of, Prints};
 
-use feeding::{Feed, Told, take_piece};
+use act::Engine;
+use book::Reply;
+use feeding::Feed;
 use once::next_size;
 use printing::{put_answer, put_closing};
 use sessions::Session;
@@ -49,24 +51,23 @@ pub fn start(n: u32, number: u32) -> Running
 }
 
 // The line of what was told, if anything was.
-fn put_told(out: &mut [u8], at: usize, index: u64, told: Told, count: u16) -> Placed
+fn put_told(out: &mut [u8], at: usize, index: u64, told: Option<Reply>, count: u16) -> Placed
     requires { at ≤ length out.old }
     ensures put { Put (answer_lines index (told_of told count)) out.old at result.at out.new }
     ensures index { result.index ≡ (index + length (told_of told count)) % 2 ^ 64 }
 {
-    let Told::Reply(reply) = told else {
+    let Some(reply) = told else {
         return Placed { at, index };
     };
     let next = put_answer(out, at, index, reply, count);
     Placed {
         at: next,
-        index: std::num::wrapping_add_u64(index, 1),
+        index: index.wrapping_add(1),
     }
 }
 
 // All of a piece: its deliveries are made, and their lines are put behind a place of the output as far as it goes.
-pub fn put_piece(
-    engine: u32,
+pub fn put_piece<E: Engine>(
     from: Running,
     piece: &[u8],
     out: &mut [u8],
@@ -77,40 +78,24 @@ pub fn put_piece(
     ensures { Prints (run_of from) (before reals imags) piece.now out.old behind
         (run_of result.next) (after reals imags) result.at out.new }
 {
-    let feed = from.feed;
-    let mut session = feed.session;
-    let mut kept = feed.kept;
-    let mut held = feed.held;
-    let mut index = from.index;
+    let Running {
+        mut feed,
+        mut index,
+    } = from;
     let mut at = next_size(behind, out.len());
-    let mut done: usize = 0;
-    while done < piece.len() {
-        let fed = take_piece(
-            engine,
-            session,
-            kept,
-            &mut held,
-            &piece[done..],
-            reals,
-            imags,
-        );
-        session = fed.session;
-        kept = fed.kept;
-        let told = fed.told;
-        let placed = put_told(out, at, index, told, session.count);
+    let mut rest = piece;
+    while !rest.is_empty() {
+        let taken = feed.take::<E>(rest, reals, imags);
+        feed = taken.next;
+        let placed = put_told(out, at, index, taken.told, feed.session.count);
         at = placed.at;
         index = placed.index;
-        done += fed.used;
+        rest = rest.split_at(taken.used).1;
     }
-    let next = Running {
-        feed: Feed {
-            session,
-            kept,
-            held,
-        },
-        index,
-    };
-    Printed { next, at }
+    Printed {
+        next: Running { feed, index },
+        at,
+    }
 }
 
 // What stands behind the last delivery.

@@ -6,10 +6,10 @@ use native.Mathlib.Omega.{arith}
 use mathlib.Core.List.{List, [], ◌∷◌, ◌++◌}
 use mathlib.Core.Logic.{⊎_elim}
 use mathlib.Core.Path.{◌≡◌, refl, sym, ap, ◌∙◌}
-use lib.ListN.{length, take, drop, length-append}
-use lib.Seq.{sets, length-sets, set_out, take_at}
+use lib.ListN.{length, take, drop, length-append, take-append-drop}
+use lib.Seq.{sets, length-sets, set_out, take_at, take_all, length-take-le}
 use Rattle.stores.proofs.Stored.{store_then}
-use Rattle.stores.specs.Stores.{store}
+use Rattle.stores.specs.Stores.{store, Stored}
 use Rattle.words.specs.Words.{Line}
 use Rattle.puts.specs.Put.{Put}
 
@@ -50,6 +50,25 @@ put_then {xs} {ys} {l} {l₁} {l₂} {at} {at₁} {at₂} p q =
 pub put_none : (l : List ℕ) (at : ℕ) → at ≤ length l → Put [] l at at l
 unfolding store
 put_none l at h = record { behind = omega arith; stored = refl }
+
+-- as many as find room are put
+pub put_part : (ws l : List ℕ) (at n : ℕ) {l₁ : List ℕ} {next : ℕ} → at ≤ length l → n ≡ min (length ws) (length l - at)
+    → Stored (take n ws) l at next l₁ → Put ws l at next l₁
+put_part ws l at n {l₁} {next} h e p =
+    ⊎_elim
+    (λ (all : length ws - (length l - at) ≡ 0).
+    let whole = take_all n ws (omega arith) in
+    let stored = rw whole at p in
+    record { behind = omega (arith, stored.behind); stored = stored.stored })
+    (λ (some : 0 < length ws - (length l - at)).
+    let size = length-take-le n ws (omega arith) in
+    let first : Put (take n ws) l at next l₁ = record { behind = omega (arith, p.behind); stored = p.stored } in
+    let same = put_length first in
+    let rest : Put (drop n ws) l₁ next next l₁ =
+    record { behind = omega (arith, p.behind); stored = sym (store_out l₁ next (drop n ws) (omega (arith, p.behind))) } in
+    let both = put_then first rest in
+    rw take-append-drop at both)
+    (eq-zero-or-pos (length ws - (length l - at)))
 
 -- ---- a line, lent as far as it goes
 

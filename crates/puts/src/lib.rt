@@ -3,6 +3,8 @@
 
 ghost use Rattle.puts.specs.Put.{Put};
 
+use stores::store;
+
 // Words behind a place. What finds no room is left out.
 pub fn put(out: &mut [u8], at: usize, words: &[u8]) -> usize
     ensures { Put words.now out.old at result out.new }
@@ -10,14 +12,6 @@ pub fn put(out: &mut [u8], at: usize, words: &[u8]) -> usize
     if out.len() < at {
         return out.len();
     }
-    let mut i: usize = 0;
-    while i < words.len() {
-        if out.len() <= at + i {
-            return at + i;
-        }
-        let byte = words[i];
-        out[at + i] = byte;
-        i += 1;
-    }
-    at + i
+    let n = words.len().min(out.len() - at);
+    store(out, at, &words[..n])
 }

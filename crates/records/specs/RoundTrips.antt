@@ -1,18 +1,17 @@
 -- Records written and read back, and bytes read and written back: the statements, which proofs/ shows. Definitions only. Assumes nothing.
 -- The logic has one NaN. So a record with a NaN reads back as written too; bytes with another NaN than 7FF8000000000000 do not write back.
-use Rattle.std.specs.Prelude.{ℕ, ◌≤◌, ◌<◌, ◌^◌, true, List, [], ◌≡◌, Float, length, Some}
-use Rattle.book.specs.Answers.{or_denied, Buffers, accepts}
+use Rattle.std.specs.Prelude.{ℕ, ◌≤◌, ◌<◌, ◌^◌, true, List, [], ◌≡◌, Float, length, Some, Result}
+use Rattle.book.specs.Answers.{gives_of, or_denied, Buffers, accepts}
 use Rattle.book.specs.Calls.{act}
 use Rattle.book.specs.Gates.{angle_of, angles_of, noise_of}
-use Rattle.book.specs.Records.{parts_of, write_record, most_bytes, written_says, wrote_of, left_by, read_record, read_says}
+use Rattle.book.specs.Records.{parts_of, write_record, most_bytes, wrote_of, left_by, read_record}
 use Rattle.book.specs.declared.Angles.{Angles}
 use Rattle.book.specs.declared.Controls.{Controls}
 use Rattle.book.specs.declared.Gate.TheVariants.{U}
-use Rattle.book.specs.declared.Read.{Read}
 use Rattle.book.specs.declared.Record.{Record}
+use Rattle.book.specs.declared.Refusal.{Refusal}
 use Rattle.book.specs.declared.Shape.{Shape}
 use Rattle.book.specs.declared.Shape.TheVariants.{Plain, Angled, Eight, Second, Forced, Noisy}
-use Rattle.book.specs.declared.Written.{Written}
 use Rattle.wire.specs.Bytes.{Bytes, Each, IsF64, NotNan}
 
 -- ---- the records that a Record holds: each number fits its type
@@ -79,10 +78,11 @@ UHasMost = (s k t : ℕ) (c : Controls) (g : Angles) → length (write_record (r
 
 -- two answers that the reader's contract allows are the same
 abbrev pub ReadersAgree : Type 0
-ReadersAgree = (bs : List ℕ) (a b : Read) → read_says a ≡ or_denied 8 (read_record bs) → read_says b ≡ or_denied 8 (read_record bs) → a ≡ b
+ReadersAgree =
+    (bs : List ℕ) (a b : Result Record Refusal) → gives_of a ≡ or_denied 8 (read_record bs) → gives_of b ≡ or_denied 8 (read_record bs) → a ≡ b
 
 -- two answers that the writer's contract allows are the same, and so is what they leave
 abbrev pub WritersAgree : Type 0
 WritersAgree =
-    (r : Record) (out : List ℕ) (a b : Written) (left other : List ℕ)
-    → written_says a ≡ wrote_of r out → left ≡ left_by r out → written_says b ≡ wrote_of r out → other ≡ left_by r out → (a ≡ b) × (left ≡ other)
+    (r : Record) (out : List ℕ) (a b : Result ℕ Refusal) (left other : List ℕ)
+    → gives_of a ≡ wrote_of r out → left ≡ left_by r out → gives_of b ≡ wrote_of r out → other ≡ left_by r out → (a ≡ b) × (left ≡ other)

@@ -8,10 +8,10 @@ ghost use Rattle.std.specs.Prelude.{◌≡◌, ◌+◌, ◌*◌, ◌^◌, ◌≤
 ghost use Rattle.std.specs.Float.{binary64};
 ghost use Rattle.std.specs.Float.Ieee.{prec};
 ghost use Rattle.numbers.specs.Fused as Def;
-ghost use Rattle.operands.specs.Operands.{Fields};
 ghost use Rattle.roots.specs.Steps.{Rooted, Stepped, Squared};
 
 use numbers::{LOW, PRECISION};
+use operands::Number;
 use rounding::{BELOW, to_odd};
 
 // The two highest digits of a limb have this weight.
@@ -53,11 +53,7 @@ fn root_step(d: Partial) -> Partial
             r: r - (4 * q + 1),
         }
     } else {
-        Partial {
-            a: b,
-            q: 2 * q,
-            r: r,
-        }
+        Partial { a: b, q: 2 * q, r }
     }
 }
 
@@ -71,10 +67,8 @@ fn root_digits(n: u64) -> u64
         q: 0,
         r: 0,
     };
-    let mut i: u64 = 0;
-    while i < TURNS {
+    for _i in 0..TURNS {
         d = root_step(d);
-        i = i + 1;
     }
     to_odd(2 * d.q, d.r)
 }
@@ -87,13 +81,12 @@ struct Fourfold {
 }
 
 // m * 2^e smallest values: m is moved up to all its digits, and the exponent made even.
-fn even_power(m: u64, e: u64) -> Fourfold
-    requires { Fields binary64 m e }
-    ensures { Squared binary64 m e result.s result.e }
+fn even_power(p: Number) -> Fourfold
+    ensures { Squared binary64 p.m p.e result.s result.e }
 {
-    let z = PRECISION - rounding::digits(m);
-    let n = m << z;
-    let g = e + LOW - z;
+    let z = PRECISION - rounding::digits(p.m);
+    let n = p.m << z;
+    let g = p.e + LOW - z;
     if g % 2 == 0 {
         Fourfold { s: n, e: g / 2 }
     } else {
@@ -108,10 +101,9 @@ pub fn root(x: f64) -> f64
     if x < 0.0 {
         return 0.0 / 0.0;
     }
-    if !operands::is_ordinary(x) {
+    let Some(p) = operands::unpack(x) else {
         return operands::with_one_nan(x);
-    }
-    let p = operands::unpack(x);
-    let c = even_power(p.m, p.e);
+    };
+    let c = even_power(p);
     rounding::pack(false, root_digits(c.s), c.e + ABOVE)
 }

@@ -9,7 +9,7 @@ ghost use Rattle.book.specs.Sessions as Book;
 ghost use Rattle.once.specs.AllOnce.{cut, AllOnce};
 ghost use Rattle.sessions.specs.Deliveries.{meant, started_says, resumed, told, unsized, Delivers};
 
-use act::run;
+use act::Engine;
 use book::{MOST_QUBITS, Refusal, Reply};
 use counting::Counted;
 use once::next_size;
@@ -86,13 +86,7 @@ impl Session {
     }
 
     // Only the next record goes on to its gate, whose own tests begin with 1 and 2: so a delivery is judged once.
-    pub fn deliver(
-        self,
-        engine: u32,
-        bytes: &[u8],
-        reals: &mut [f64],
-        imags: &mut [f64],
-    ) -> Delivered
+    pub fn deliver<E: Engine>(self, bytes: &[u8], reals: &mut [f64], imags: &mut [f64]) -> Delivered
         ensures { Delivers (deliver (meant self) (before reals imags) bytes.now) result (after reals imags) }
     {
         let Ok(it) = reader::read_record(bytes) else {
@@ -100,7 +94,7 @@ impl Session {
         };
         match stand(self.number, self.count, self.value, it) {
             Ok(next) => {
-                let answer = run(engine, self.n, it.gate, reals, imags);
+                let answer = E::run(self.n, it.gate, reals, imags);
                 self.told(counting::ran(self.count, self.value, self.mark, next, bytes, answer))
             }
             Err(reply) => self.passed(reply, reals, imags),
@@ -108,9 +102,8 @@ impl Session {
     }
 
     // Deliveries one after the other, which lie so in `bytes`; `lengths` says how many bytes each takes. Whatever comes, each record is run once.
-    pub fn deliver_all(
+    pub fn deliver_all<E: Engine>(
         self,
-        engine: u32,
         bytes: &[u8],
         lengths: &[usize],
         reals: &mut [f64],
@@ -122,7 +115,7 @@ impl Session {
         let mut rest = bytes;
         for asked in lengths {
             let (part, behind) = rest.split_at(next_size(*asked, rest.len()));
-            session = session.deliver(engine, part, reals, imags).next;
+            session = session.deliver::<E>(part, reals, imags).next;
             rest = behind;
         }
         session

@@ -5,18 +5,23 @@ ghost use Rattle.book.specs.Records.{read_record};
 ghost use Rattle.from_flat.specs.Records.{record_of};
 ghost use Rattle.spelling.specs.Spelling.{Reads, Writes};
 
-use answers::{number_of, tell};
-use book::{Read, Written};
+use answers::TAKEN;
 use flat::put_record;
 use from_flat::record_of;
+use reader::read_record;
+use writer::write_record;
 
 // The bytes as a record: 8 if they are none; then 12 if fewer places are lent than a record's numbers take.
 pub fn read_numbers(bytes: &[u8], fields: &mut [u32], numbers: &mut [f64]) -> u32
     ensures { Reads (read_record bytes.now) fields.old numbers.old result fields.new numbers.new }
 {
-    match reader::read_record(bytes) {
-        Read::Record(it) => tell(put_record(it, fields, numbers)),
-        Read::Refused(refusal) => number_of(refusal),
+    let it = match read_record(bytes) {
+        Ok(it) => it,
+        Err(refusal) => return u32::from(refusal),
+    };
+    match put_record(it, fields, numbers) {
+        Ok(()) => TAKEN,
+        Err(refusal) => u32::from(refusal),
     }
 }
 
@@ -24,11 +29,12 @@ pub fn read_numbers(bytes: &[u8], fields: &mut [u32], numbers: &mut [f64]) -> u3
 pub fn write_numbers(fields: &[u32], numbers: &[f64], out: &mut [u8]) -> u32
     ensures { Writes (record_of fields.now numbers.now) out.old result out.new }
 {
-    match record_of(fields, numbers) {
-        Read::Record(it) => match writer::write_record(it, out) {
-            Written::Bytes(size) => size as u32,
-            Written::Refused(refusal) => number_of(refusal),
-        },
-        Read::Refused(refusal) => number_of(refusal),
+    let it = match record_of(fields, numbers) {
+        Ok(it) => it,
+        Err(refusal) => return u32::from(refusal),
+    };
+    match write_record(it, out) {
+        Ok(size) => size as u32,
+        Err(refusal) => u32::from(refusal),
     }
 }

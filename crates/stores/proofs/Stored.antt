@@ -1,15 +1,20 @@
 -- Bytes stored piece after piece: one run after another, and a number from its lowest byte on. Assumes nothing.
 use Prim.Native.Nat.{ℕ, zero, suc, ◌+◌, ◌-◌, ◌*◌, ◌/◌, ◌%◌, ◌^◌, ◌≤◌, ◌<◌}
 use native.Mathlib.Nat.{add-zero, add-suc, suc-add, zero-add, mul_comm, mul_assoc, mul-add-div_right, mul-add-mod_self_right}
-use native.Mathlib.Nat.{div-eq_of_lt, mod-eq_of_lt, mod-lt, div-add-mod'}
+use native.Mathlib.Nat.{div-eq_of_lt, mod-eq_of_lt, mod-lt, div-add-mod', div-div-eq-div-mul}
 use native.Mathlib.Numerals.{add-one}
 use native.Mathlib.Omega.{arith}
-use mathlib.Core.Path.{◌≡◌, refl, sym, ap, ◌∙◌, subst}
+use mathlib.Core.Path.{◌≡◌, refl, sym, ap, ◌∙◌}
 use mathlib.Core.List.{List, [], ◌∷◌, ◌++◌}
 use lib.Ieee.{Float, binary64, to_bits}
-use lib.ListN.{length, drop, get_or, set, length-append, drop_of_length-le}
-use lib.Seq.{sets, sets-eq, set_comm, drop-cons}
+use lib.ListN.{length, take, drop, get_or, length-append}
+use lib.Seq.{sets, sets-eq}
+use Rattle.std.specs.Int.{w64, byte_at, bytes_high_first, to_be_bytes}
+use Rattle.std.proofs.Common.{append_assoc, append-nil}
+use borrow.Rule.Slice.PartMut.{put_mid}
+use lib.Seq.{drop-drop, length-take-le, take_all}
 use Rattle.book.specs.Records.{bytes, floats, field}
+use Rattle.wire.proofs.Floats.{length_floats}
 use Rattle.wire.proofs.Numbers.{length_bytes, pow256_pos}
 use Rattle.stores.specs.Stores.{store, Stored}
 
@@ -36,30 +41,24 @@ stored_then {xs} {ys} {l} {l₁} {l₂} {at} {at₁} {at₂} p q =
     }
 
 -- a field: its tag and length, and then its contents
-pub stored_field : (tag width at : ℕ) (contents l l₁ l₂ : List ℕ) → length contents ≡ width
-    → l₁ ≡ store l at (tag ∷ bytes 2 width) → l₂ ≡ store l₁ (at + 3) contents → Stored (field tag contents) l at (at + (3 + width)) l₂
-stored_field tag width at contents l l₁ l₂ size p q =
-    let start = tag ∷ bytes 2 width in
-    subst (λ (k : ℕ). Stored (tag ∷ bytes 2 k ++ contents) l at (at + (3 + width)) l₂) (sym size)
-    (record {
-      behind = omega (arith, length-append start contents);
-      stored = store_then l l₁ l₂ at (at + 3) start contents p q (omega arith);
-    })
+pub stored_field : {tag width : ℕ} {contents l l₁ l₂ : List ℕ} {at at₁ at₂ : ℕ} → length contents ≡ width
+    → Stored (tag ∷ bytes 2 width) l at at₁ l₁ → Stored contents l₁ at₁ at₂ l₂ → Stored (field tag contents) l at at₂ l₂
+stored_field size p q = rw size (stored_then p q)
+
+-- bytes written over a part of the buffer
+pub stored_mid : (l bs ys : List ℕ) (at k : ℕ) → k ≡ length bs → ys ≡ bs → at + length bs ≤ length l → Stored bs l at (at + length bs) (put_mid at k l ys)
+unfolding store
+stored_mid l bs ys at k p e h =
+    record {
+      behind = refl;
+      stored = rw (p, e, drop-drop (length bs) at l, sets-eq bs l at h) (sym (append_assoc (take at l) bs (drop (at + length bs) l)));
+    }
 
 pub store_first : (l bs : List ℕ) → length bs ≤ length l → store l 0 bs ≡ bs ++ drop (length bs) l
 unfolding store
 store_first l bs h = sets-eq bs l 0 (rw zero-add h) ∙ ap (λ (k : ℕ). bs ++ drop k l) (zero-add (length bs))
 
--- ---- the lowest byte first
-
-sets_last : (l : List ℕ) (i : ℕ) (xs : List ℕ) (y : ℕ) → sets l i (xs ++ (y ∷ [])) ≡ sets (set l (i + length xs) y) i xs
-sets_last l i [] y = ap (λ (k : ℕ). set l k y) (sym (add-zero i))
-sets_last l i (x ∷ xs) y =
-    let apart : i ≡ i + suc (length xs) → ⊥ = λ e. omega arith in
-    let next : suc i + length xs ≡ i + suc (length xs) = omega arith in
-    sets_last (set l i x) (suc i) xs y
-    ∙ ap (λ (k : ℕ). sets (set (set l i x) k y) (suc i) xs) next
-    ∙ ap (λ (m : List ℕ). sets m (suc i) xs) (set_comm l i (i + suc (length xs)) x y apart)
+-- ---- a number's bytes, as the code makes them
 
 times : (x p : ℕ) → x * (256 * p) ≡ x * p * 256
 times x p = ap (λ (y : ℕ). x * y) (mul_comm 256 p) ∙ sym (mul_assoc x p 256)
@@ -95,43 +94,55 @@ bytes_snoc (suc k) q b h l =
     let others : (q * 256 + b) % 256 ^ suc k ≡ low * 256 + b = ap (λ (x : ℕ). x % 256 ^ suc k) same ∙ rest_is high (256 ^ suc k) (low * 256 + b) fits in
     (λ i. first i ∷ bytes (suc k) (others i)) ∙ ap (λ (bs : List ℕ). high ∷ bs) (bytes_snoc k low b low_is l)
 
--- a number's lowest byte stored, and then the others
-pub store_low : (l : List ℕ) (at k n : ℕ) → n < 256 ^ suc k → store l at (bytes (suc k) n) ≡ store (set l (at + k) (n % 256)) at (bytes k (n / 256))
-unfolding store
-store_low l at k n h =
-    let q : n / 256 < 256 ^ k = omega (arith, pow_suc_256 k) in
-    let e : n ≡ n / 256 * 256 + n % 256 = omega arith in
-    ap (λ (x : ℕ). sets l at (bytes (suc k) x)) e
-    ∙ ap (sets l at) (bytes_snoc k (n / 256) (n % 256) q (omega arith))
-    ∙ sets_last l at (bytes k (n / 256)) (n % 256)
-    ∙ ap (λ (x : ℕ). sets (set l (at + x) (n % 256)) at (bytes k (n / 256))) (length_bytes k (n / 256))
+-- the lowest bytes of any number are those of the number, if it has no more
+high_snoc : (k n : ℕ) → bytes_high_first (suc k) n ≡ bytes_high_first k (n / 256) ++ (n % 256 ∷ [])
+high_snoc zero n = refl
+high_snoc (suc zero) n = refl
+high_snoc (suc (suc k)) n =
+    let same : n / 256 ^ suc (suc k) ≡ n / 256 / 256 ^ suc k = ap (λ (d : ℕ). n / d) (pow_suc_256 (suc k)) ∙ sym (div-div-eq-div-mul n 256 (256 ^ suc k)) in
+    ap (λ (b : ℕ). b % 256 ∷ bytes_high_first (suc (suc k)) n) same ∙ ap (λ (bs : List ℕ). byte_at (suc k) (n / 256) ∷ bs) (high_snoc (suc k) n)
 
--- the same at a count that is not 0, and at 0
-module _ (l : List ℕ) (at i n : ℕ) where
-  pub store_step : 0 < i → n < 256 ^ i
-      → (n / 256 < 256 ^ (i - 1)) × (store (set l (at + (i - 1)) (n % 256)) at (bytes (i - 1) (n / 256)) ≡ store l at (bytes i n))
-  store_step h small =
-      let e : suc (i - 1) ≡ i = omega arith in
-      let fits : n < 256 ^ suc (i - 1) = rw e small in
-      (omega (arith, pow_suc_256 (i - 1)), sym (store_low l at (i - 1) n fits) ∙ ap (λ (k : ℕ). store l at (bytes k n)) e)
+high_is : (k n : ℕ) → n < 256 ^ k → bytes_high_first k n ≡ bytes k n
+high_is zero n h = refl
+high_is (suc k) n h =
+    let small : n / 256 < 256 ^ k = omega (arith, pow_suc_256 k) in
+    let whole : n / 256 * 256 + n % 256 ≡ n = omega arith in
+    high_snoc k n
+    ∙ ap (λ (bs : List ℕ). bs ++ (n % 256 ∷ [])) (high_is k (n / 256) small)
+    ∙ sym (bytes_snoc k (n / 256) (n % 256) small (omega arith))
+    ∙ ap (bytes (suc k)) whole
 
-  pub store_none : i ≡ 0 → store l at (bytes i n) ≡ l
-  unfolding store
-  store_none e = ap (λ (k : ℕ). sets l at (bytes k n)) e
+drop_high : (i k n : ℕ) → drop i (bytes_high_first (i + k) n) ≡ bytes_high_first k n
+drop_high zero k n = rw zero-add
+drop_high (suc i) k n = rw suc-add (drop_high i k n)
+
+-- as a slice of all eight
+pub low_bytes : (k n : ℕ) → k ≤ 8 → n < 256 ^ k → take (8 - (8 - k)) (drop (8 - k) (to_be_bytes w64 n)) ≡ bytes k n
+low_bytes k n h l =
+    let e : 8 - k + k ≡ 8 = omega arith in
+    let is : drop (8 - k) (to_be_bytes w64 n) ≡ bytes k n =
+    ap (λ (m : ℕ). drop (8 - k) (bytes_high_first m n)) (sym e) ∙ drop_high (8 - k) k n ∙ high_is k n l in
+    ap (take (8 - (8 - k))) is ∙ take_all (8 - (8 - k)) (bytes k n) (omega (arith, length_bytes k n))
 
 -- ---- floats, one after the other
 
-module _ (xs : List Float) (d : Float) (at : ℕ) where
-  pub floats_step : (l l' : List ℕ) (i : ℕ) → i < length xs → l' ≡ store l (at + 8 * i) (bytes 8 (to_bits binary64 (get_or xs i d)))
-      → store l' (at + 8 * (i + 1)) (floats (drop (i + 1) xs)) ≡ store l (at + 8 * i) (floats (drop i xs))
-  floats_step l l' i h q =
-      let p : at + 8 * (i + 1) ≡ at + 8 * i + 8 = omega arith in
-      store_then l l' _ (at + 8 * i) (at + 8 * (i + 1)) (bytes 8 (to_bits binary64 (get_or xs i d))) (floats (drop (i + 1) xs)) q refl p
-      ∙ ap (λ (ys : List Float). store l (at + 8 * i) (floats ys)) (sym (drop-cons xs i d h ∙ ap (λ (n : ℕ). get_or xs i d ∷ drop n xs) (sym (add-one i))))
+floats_next : (xs : List Float) (i : ℕ) (d : Float) → i < length xs
+    → floats (take (suc i) xs) ≡ floats (take i xs) ++ bytes 8 (to_bits binary64 (get_or xs i d))
+floats_next [] i d h = absurd (omega arith)
+floats_next (x ∷ xs) zero d h = append-nil (bytes 8 (to_bits binary64 x))
+floats_next (x ∷ xs) (suc i) d h =
+    ap (λ (bs : List ℕ). bytes 8 (to_bits binary64 x) ++ bs) (floats_next xs i d (omega arith))
+    ∙ sym (append_assoc (bytes 8 (to_bits binary64 x)) (floats (take i xs)) (bytes 8 (to_bits binary64 (get_or xs i d))))
 
-  pub floats_all : (l : List ℕ) → store l (at + 8 * 0) (floats (drop 0 xs)) ≡ store l at (floats xs)
-  floats_all l = ap (λ (n : ℕ). store l n (floats xs)) (add-zero at)
+-- one float more
+pub stored_float : (xs : List Float) (i : ℕ) {n : ℕ} {l l₁ l₂ : List ℕ} {at at₁ at₂ : ℕ} (d : Float) → i < length xs → n ≡ to_bits binary64 (get_or xs i d)
+    → Stored (floats (take i xs)) l at at₁ l₁ → Stored (bytes 8 n) l₁ at₁ at₂ l₂ → Stored (floats (take (i + 1) xs)) l at at₂ l₂
+stored_float xs i d h e p q = rw (add-one, floats_next xs i d h, ← e) (stored_then p q)
 
-  pub floats_none : (l : List ℕ) (i : ℕ) → length xs ≤ i → store l (at + 8 * i) (floats (drop i xs)) ≡ l
-  unfolding store
-  floats_none l i h = ap (λ (ys : List Float). sets l (at + 8 * i) (floats ys)) (drop_of_length-le xs {i = i} h)
+pub stored_none : (l : List ℕ) (at : ℕ) → Stored [] l at at l
+unfolding store
+stored_none l at = record { behind = omega arith; stored = refl }
+
+-- as many bytes as were passed
+pub passed : (xs : List Float) (i : ℕ) {l l₁ : List ℕ} {at at₁ : ℕ} → i ≤ length xs → Stored (floats (take i xs)) l at at₁ l₁ → at₁ ≡ at + 8 * i
+passed xs i h p = omega (arith, p.behind, length_floats (take i xs), length-take-le i xs h)

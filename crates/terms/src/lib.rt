@@ -12,17 +12,14 @@ ghost use Rattle.terms.specs.Terms.{of_ordinary};
 pub fn of_ordinary(x: f64, y: f64, z: f64) -> f64
     ensures { result ≡ of_ordinary binary64 x y z }
 {
-    let a = operands::unpack(x);
-    if a.m == 0 {
+    let Some(a) = operands::unpack(x) else {
         return 0.0;
-    }
-    let b = operands::unpack(y);
-    if b.m == 0 {
+    };
+    let Some(b) = operands::unpack(y) else {
         return 0.0;
-    }
-    let c = operands::unpack(z);
-    if c.m == 0 {
+    };
+    let Some(c) = operands::unpack(z) else {
         return 0.0;
-    }
+    };
     sum::multiply_add(a, b, c)
 }

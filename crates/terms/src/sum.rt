@@ -5,7 +5,6 @@ ghost use Rattle.std.specs.Float.Ieee.{size, round, sum};
 ghost use Rattle.rounding.specs.Odd.{cut_to_odd};
 ghost use Rattle.terms.specs.Terms.{upper, Terms, multiply_add};
 ghost use Rattle.rounding.specs.Working.{scale, far};
-ghost use Rattle.operands.specs.Operands.{Fields};
 
 use numbers::LOW;
 use operands::Number;
@@ -89,7 +88,6 @@ const TERM_BELOW: u64 = LOW + 6;
 
 // x * y + z, rounded once.
 pub(crate) fn multiply_add(x: Number, y: Number, z: Number) -> f64
-    requires { Fields binary64 x.m x.e × Fields binary64 y.m y.e × Fields binary64 z.m z.e }
     ensures { result ≡ multiply_add binary64 x.neg x.m x.e y.neg y.m y.e z.neg z.m z.e }
 {
     aligned(

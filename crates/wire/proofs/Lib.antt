@@ -3,3 +3,4 @@ pub mod Numbers
 pub mod Floats
 pub mod Fields
 pub mod After
+mod Nan

@@ -75,9 +75,11 @@ number_snoc (a ∷ bs) b =
     let p : a * 256 ^ length (bs ++ (b ∷ [])) ≡ a * (256 * 256 ^ length bs) = ap (λ (m : ℕ). a * 256 ^ m) k ∙ ap (λ (m : ℕ). a * m) e in
     omega (arith, number_snoc bs b)
 
--- a byte more of what stands at a place
+-- a byte more
+pub number_next : (s : List ℕ) (i : ℕ) → i < length s → number (take (i + 1) s) ≡ number (take i s) * 256 + get_or s i 0
+number_next s i h = rw (add-one, take-suc s i 0 h) (number_snoc (take i s) (get_or s i 0))
+
+-- and of what stands at a place
 pub number_more : (s : List ℕ) (at i : ℕ) → at + i < length s
     → number (take (i + 1) (drop at s)) ≡ number (take i (drop at s)) * 256 + get_or s (at + i) 0
-number_more s at i h =
-    rw (add-one, take-suc (drop at s) i 0 (rw length-drop (omega arith)), get_or-drop at s i 0)
-    (number_snoc (take i (drop at s)) (get_or s (at + i) 0))
+number_more s at i h = rw (← get_or-drop at s i 0) (number_next (drop at s) i (rw length-drop (omega arith)))

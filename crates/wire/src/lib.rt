@@ -16,15 +16,15 @@ pub fn float_of(bits: u64) -> f64
     ensures { result ≡ of_bits binary64 bits }
 {
     if INFINITY < bits % SIGN {
-        0.0 / 0.0
+        f64::NAN
     } else {
         f64::from_bits(bits)
     }
 }
 
-// The bits of an f64. Only a NaN differs from itself.
+// The bits of an f64.
 pub fn bits_of(x: f64) -> u64
     ensures { result ≡ to_bits binary64 x }
 {
-    if x != x { NAN } else { f64::to_bits(x) }
+    if x.is_nan() { NAN } else { x.to_bits() }
 }

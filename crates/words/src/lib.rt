@@ -6,17 +6,13 @@ ghost use Rattle.std.specs.Prelude.{◌+◌, ◌^◌, ◌≤◌, ◌<◌, length
 ghost use Rattle.io.specs.Digits.{last_digits};
 ghost use Rattle.words.specs.Words.{decimal, bits, mark_digits, Added};
 
+use stores::store;
+
 pub fn add(out: &mut [u8], at: usize, words: &[u8]) -> usize
     requires { at + length words.now ≤ length out.old }
     ensures { Added words.now (length words.now) out.old at result out.new }
 {
-    let mut i: usize = 0;
-    while i < words.len() {
-        let byte = words[i];
-        out[at + i] = byte;
-        i += 1;
-    }
-    at + words.len()
+    store(out, at, words)
 }
 
 pub fn add_number(out: &mut [u8], at: usize, n: u64) -> usize

@@ -2,11 +2,12 @@
 #![tactic(auto)]
 
 ghost use Rattle.std.specs.Prelude.{◌≡◌, ◌+◌, ◌≤◌, length};
-ghost use Rattle.book.specs.Records.{written_says, wrote_of, left_by, fields_of};
+ghost use Rattle.book.specs.Answers.{gives_of};
+ghost use Rattle.book.specs.Records.{wrote_of, left_by, fields_of};
 ghost use Rattle.stores.specs.Stores.{Stored};
 ghost use Rattle.writer.specs.Heads.{head_of};
 
-use book::{Record, Refusal, Shape, Written};
+use book::{Parts, Record, Refusal, Shape};
 use shapes::parts_of;
 use stores::store_number_field;
 use storing::store_shape;
@@ -49,17 +50,18 @@ fn store_head(out: &mut [u8], session: u32, number: u16, code: u8, target: u8) -
     store_number_field(out, at_target, 0x04, 1, target as u64)
 }
 
-pub fn write_record(it: Record, out: &mut [u8]) -> Written
-    ensures answers { written_says result ≡ wrote_of it out.old }
+pub fn write_record(it: Record, out: &mut [u8]) -> Result<usize, Refusal>
+    ensures answers { gives_of result ≡ wrote_of it out.old }
     ensures leaves { out.new ≡ left_by it out.old }
 {
-    let gate = it.gate;
-    let parts = parts_of(gate);
-    let shape = parts.shape;
-    let size = size_of(shape);
-    if out.len() < size {
-        return Written::Refused(Refusal::Room);
+    let Parts {
+        code,
+        target,
+        shape,
+    } = parts_of(it.gate);
+    if out.len() < size_of(shape) {
+        return Err(Refusal::Room);
     }
-    let behind = store_head(out, it.session, it.number, parts.code, parts.target);
-    Written::Bytes(store_shape(out, behind, shape))
+    let behind = store_head(out, it.session, it.number, code, target);
+    Ok(store_shape(out, behind, shape))
 }

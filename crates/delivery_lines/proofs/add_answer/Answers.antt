@@ -2,5 +2,5 @@
 use Rattle.words.proofs.Writing.{then}
 use Rattle.delivery_lines.proofs.add_answer.Goals as goal
 
-pub returns-in-Refused : goal.returns-in-Refused
-returns-in-Refused c = rw (c.in-Refused.is, ← c.number_of.ensures) (then c.add-behind.ensures c.add_number.ensures)
+pub returns-in-Err : goal.returns-in-Err
+returns-in-Err c = rw (c.in-Err.is, ← c.from.ensures) (then c.add-behind.ensures c.add_number.ensures)

@@ -22,6 +22,6 @@ joined zeros first last frame frame₂ {have} {end} fits size p q =
     ∙ take_at (drop 3 all) (drop (length all) zeros) (end - 3) (omega (arith, length-drop 3 all, p.behind, q.behind))
 
 pub returns : goal.returns
-returns c = let a = c.args in
+returns g c = let a = c.args in
     let same = joined _ a.first.now a.last.now _ _ c.requires (omega arith) c.add-have.ensures c.add-end.ensures in
     rw (← same) c.make.ensures

@@ -35,64 +35,64 @@ module _ (held : List ℕ) (kept : ℕ) (piece : List ℕ) {r : Gathered}
   parts {len} size e low = in_two held kept piece size len r.used low (whole e) (due_at e) g.used
 
 pub add-requires : goal.add-requires
-add-requires c =
+add-requires g c =
     let a = c.args in
-    let g = c.gather-gathered in
+    let g = c.gather-used in
     let fits = (holding a.held.now a.kept a.piece.now g.ensures (omega arith) c.in-Nothing.is c.if-next-lt-STOPPED.true).fits in
     omega (arith, fits)
 
 pub overflow_add-end : goal.overflow_add-end
-overflow_add-end c =
+overflow_add-end g c =
     let a = c.args in
-    let g = c.gather-gathered in
+    let g = c.gather-used in
     omega (arith, (sized _ (whole a.held.now a.kept a.piece.now g.ensures c.in-Frame.is)).most)
 
 pub slice_bounds-make_joined-length : goal.slice_bounds-make_joined-length
-slice_bounds-make_joined-length c =
+slice_bounds-make_joined-length g c =
     let a = c.args in
-    let g = c.gather-gathered in
+    let g = c.gather-used in
     sym (parts a.held.now a.kept a.piece.now g.ensures (omega arith) c.in-Frame.is c.if-used-end.true).first_is
 
 pub slice_bounds-make_joined-end : goal.slice_bounds-make_joined-end
-slice_bounds-make_joined-end c =
+slice_bounds-make_joined-end g c =
     let a = c.args in
-    let g = c.gather-gathered in
+    let g = c.gather-used in
     sym (parts a.held.now a.kept a.piece.now g.ensures (omega arith) c.in-Frame.is c.if-used-end.true).last_is
 
 pub make_joined-requires : goal.make_joined-requires
-make_joined-requires c =
+make_joined-requires g c =
     let a = c.args in
-    let g = c.gather-gathered in
+    let g = c.gather-used in
     (parts a.held.now a.kept a.piece.now g.ensures (omega arith) c.in-Frame.is c.if-used-end.true).joins
 
 pub returns-then-used-end : goal.returns-then-used-end
-returns-then-used-end c =
+returns-then-used-end g c =
     let a = c.args in
-    let g = c.gather-gathered in
+    let g = c.gather-used in
     let p = parts a.held.now a.kept a.piece.now g.ensures (omega arith) c.in-Frame.is c.if-used-end.true in
     search
     (made a.held.now a.kept a.piece.now (ap Some p.contents_are ∙ due_at a.held.now a.kept a.piece.now g.ensures c.in-Frame.is) (p.last_is ∙ g.ensures.used)
     c.make_joined.ensures)
 
 pub slice_bounds-make-end : goal.slice_bounds-make-end
-slice_bounds-make-end c =
+slice_bounds-make-end g c =
     let a = c.args in
-    let g = c.gather-gathered in
+    let g = c.gather-used in
     omega (arith, g.ensures.used, step_within (rest_of a.held.now a.kept) a.piece.now)
 
 pub returns-then-next-lt-STOPPED : goal.returns-then-next-lt-STOPPED
-returns-then-next-lt-STOPPED c =
+returns-then-next-lt-STOPPED g c =
     let a = c.args in
-    let g = c.gather-gathered in
+    let g = c.gather-used in
     let holds = holding a.held.now a.kept a.piece.now g.ensures (omega arith) c.in-Nothing.is c.if-next-lt-STOPPED.true in
     search
     (nothing_due (meant a.session) (buffers a.reals.now a.imags.now) a.held.now a.kept a.piece.now g.ensures.used g.ensures.kept
     (due_at a.held.now a.kept a.piece.now g.ensures c.in-Nothing.is) (c.add.ensures.stored ∙ holds.is))
 
 pub returns-else-next-lt-STOPPED : goal.returns-else-next-lt-STOPPED
-returns-else-next-lt-STOPPED c =
+returns-else-next-lt-STOPPED g c =
     let a = c.args in
-    let g = c.gather-gathered in
+    let g = c.gather-used in
     let due = due_at a.held.now a.kept a.piece.now g.ensures c.in-Nothing.is in
     let many = rw g.ensures.kept at c.if-next-lt-STOPPED.false in
     search
@@ -100,9 +100,9 @@ returns-else-next-lt-STOPPED c =
     due (stays a.held.now a.kept a.piece.now due many))
 
 pub returns-else-used-end : goal.returns-else-used-end
-returns-else-used-end c =
+returns-else-used-end g c =
     let a = c.args in
-    let g = c.gather-gathered in
+    let g = c.gather-used in
     let len = c.in-Frame.len in
     let bare =
     none_held (rest_of a.held.now a.kept) a.piece.now (whole a.held.now a.kept a.piece.now g.ensures c.in-Frame.is)
@@ -112,7 +112,7 @@ returns-else-used-end c =
     search (made a.held.now a.kept a.piece.now (ap Some here ∙ due_at a.held.now a.kept a.piece.now g.ensures c.in-Frame.is) g.ensures.used c.make.ensures)
 
 pub returns-in-TooLong : goal.returns-in-TooLong
-returns-in-TooLong c =
+returns-in-TooLong g c =
     let a = c.args in
-    let g = c.gather-gathered in
+    let g = c.gather-used in
     search (made a.held.now a.kept a.piece.now (due_at a.held.now a.kept a.piece.now g.ensures c.in-TooLong.is) g.ensures.used c.make-in-TooLong.ensures)

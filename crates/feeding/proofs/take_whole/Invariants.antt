@@ -1,5 +1,4 @@
 -- `feeding::take_whole` meets its contract: each turn is one step of the stream, whose answer is stored behind those before it. Assumes nothing.
-use Prim.Native.Nat.{◌-◌}
 use mathlib.Core.List.{List}
 use lib.ListN.{length}
 use Rattle.book.specs.Answers.{buffers}
@@ -9,12 +8,12 @@ use Rattle.feeding.specs.Feeding.{form, Filled}
 use Rattle.feeding.proofs.Loop.{Left}
 use Rattle.feeding.proofs.take_whole.Given as goal
 
-abbrev pub invariant-loop-at : goal.invariant-loop-at
-invariant-loop-at l =
+abbrev pub invariant-loop-rest : goal.invariant-loop-rest
+invariant-loop-rest g l =
     (t : List Answered)
-    × Left (form (meant l.initial.session) l.initial.kept l.initial.held) (buffers l.initial.reals l.initial.imags) l.piece l.at t
+    × Left (form (meant l.initial.session) l.initial.kept l.initial.held) (buffers l.initial.reals l.initial.imags) l.piece l.rest t
     (form (meant l.session) l.kept l.held) (buffers l.reals l.imags)
     × Filled l.initial.answers l.initial.filled t l.filled l.answers
 
-abbrev pub decreases-loop-at : goal.decreases-loop-at
-decreases-loop-at l = length l.piece - l.at
+abbrev pub decreases-loop-rest : goal.decreases-loop-rest
+decreases-loop-rest g l = length l.rest

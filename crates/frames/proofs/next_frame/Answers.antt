@@ -2,7 +2,7 @@
 use Prim.Native.Nat.{ℕ, ◌+◌, ◌*◌, ◌≤◌}
 use native.Mathlib.Omega.{arith}
 use mathlib.Core.List.{List, ◌++◌}
-use mathlib.Core.Path.{◌≡◌, sym, ap₂, ◌∙◌}
+use mathlib.Core.Path.{◌≡◌, sym, ap, ap₂, ◌∙◌}
 use lib.ListN.{length, get_or, length-append}
 use Rattle.frames.specs.Frames.{next_of, sized}
 use Rattle.frames.specs.declared.Next.{Next}
@@ -36,5 +36,6 @@ pub returns : goal.returns
 returns c = let parts : (List ℕ) = let a = c.args in a.first.now ++ a.second.now in
     let many : (let a = c.args in length a.first.now + length a.second.now ≡ length parts) = let a = c.args in sym (length-append a.first.now a.second.now) in
     let not_none : (length parts ≡ 0 → ⊥) = λ e. c.if-have-eq0.false (many ∙ e) in
-    of_two parts _ _ _ many c.if-have-lt3.false c.byte_at-high.ensures c.byte_at-low.ensures not_none
-    (sym c.byte_at.ensures ∙ c.if-byte_at-ne-FRAME.false) c.sized.ensures
+    let two : c.from.result ≡ c.byte_at-2.result * 256 + c.byte_at-3.result = c.from.ensures ∙ c.from_be_bytes.ensures ∙ omega arith in
+    of_two parts _ _ _ many c.if-have-lt3.false c.byte_at-2.ensures c.byte_at-3.ensures not_none
+    (sym c.byte_at.ensures ∙ c.if-byte_at-ne-FRAME.false) (c.sized.ensures ∙ ap (sized _) two)

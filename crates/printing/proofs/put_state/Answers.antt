@@ -3,22 +3,17 @@ use native.Mathlib.Omega.{arith}
 use mathlib.Core.Path.{◌∙◌}
 use lib.Ieee.{nan}
 use Rattle.puts.proofs.Puts.{put_length, put_within, left_step, left_none}
-use Rattle.printing.proofs.States.{no_real, no_imaginary, line_next}
+use Rattle.printing.proofs.States.{none_left, line_next}
 use Rattle.printing.proofs.put_state.Goals as goal
-
-pub returns-then-imags-place : goal.returns-then-imags-place
-returns-then-imags-place c = let o = c.loop-place in
-    let a = c.args in
-    left_none (no_imaginary a.reals.now a.imags.now o.place (omega arith)) o.invariant.1 o.invariant.3
 
 pub loop-place-preserved : goal.loop-place-preserved
 loop-place-preserved c = let o = c.loop-place in
     let a = c.args in
     let put = c.put_place-next.ensures in
-    let here = line_next a.reals.now a.imags.now nan o.place (omega arith) (omega arith) in
-    (omega arith, put_within put, put_length put ∙ o.invariant.2, left_step here o.invariant.3 put)
+    let here = line_next a.reals.now a.imags.now nan o.place (omega (arith, c.min-place-end.ensures)) (omega (arith, c.min-place-end.ensures)) in
+    (put_within put, put_length put ∙ o.invariant.1, left_step here o.invariant.2 put)
 
 pub returns : goal.returns
 returns c = let o = c.loop-place in
     let a = c.args in
-    left_none (no_real a.reals.now a.imags.now o.place (omega arith)) o.invariant.1 o.invariant.3
+    left_none (none_left a.reals.now a.imags.now o.place (omega (arith, c.min-place-end.ensures))) o.invariant.0 o.invariant.2

@@ -1,4 +1,5 @@
-use Rattle.std.proofs.Common.{◌≡◌, ℕ, ◌+◌, ◌-◌, ◌≤◌, List, ◌++◌, rules, arith, length, take, slice_range, sym, ap, ◌∙◌, subst, le_refl, drop_at, length-take-le, Result, Ok, Err, OnErr}
+use Rattle.std.proofs.Common.{◌≡◌, ℕ, ◌+◌, ◌-◌, ◌<◌, ◌≤◌, List, ◌++◌, rules, arith, length, take}
+use Rattle.std.proofs.Common.{slice_range, sym, ap, ◌∙◌, subst, le_refl, drop_at, length-take-le, Result, Ok, Err, OnErr}
 use Rattle.std.proofs.lemmas.Slice.{take-put_mid_below}
 use Rattle.std.specs.Io.KnownBytes.{Consumes, Keeps}
 use Rattle.std.proofs.KnownBytes.{Consumes-nil, Consumes-trans, Consumes-kept}
@@ -16,7 +17,9 @@ slice_range-put_mid : (a k n : ℕ) (xs ys : List ℕ) → a ≤ length xs → n
 slice_range-put_mid a k n xs ys within fits =
     let same : (a + n) - a ≡ n = omega arith in
     let after = post_of a k xs in
-    ap (take ((a + n) - a)) (drop_at (take a xs) (ys ++ after) a (length-take-le a xs within)) ∙ ap (λ m. take m (ys ++ after)) same ∙ take-append-le n ys after fits
+    ap (take ((a + n) - a)) (drop_at (take a xs) (ys ++ after) a (length-take-le a xs within))
+    ∙ ap (λ m. take m (ys ++ after)) same
+    ∙ take-append-le n ys after fits
 
 -- what was read into the part stands behind what was there
 more : (a b c : Option (List ℕ)) (at k n : ℕ) (xs ys : List ℕ) → at ≤ length xs → n ≤ length ys → Consumes a b (take at xs) → Consumes b c (take n ys)
@@ -34,12 +37,14 @@ none a b c at k n xs ys zero within fits before read =
     subst (λ m. Consumes a c (take m (put_mid at k xs ys))) same (more a b c at k n xs ys within fits before read)
 
 -- nothing was read into the part, since the read failed
-kept : (a b c : Option (List ℕ)) (at k : ℕ) (xs ys : List ℕ) → at ≤ length xs → Consumes a b (take at xs) → Keeps b c → Consumes a c (take at (put_mid at k xs ys))
+kept : (a b c : Option (List ℕ)) (at k : ℕ) (xs ys : List ℕ) → at ≤ length xs → Consumes a b (take at xs) → Keeps b c
+    → Consumes a c (take at (put_mid at k xs ys))
 kept a b c at k xs ys within before keeps = subst (Consumes a c) (sym (take-put_mid_below _ _ _ _ _ (le_refl _) within)) (Consumes-kept a b c _ before keeps)
 
-on_err : {A E : Type 0} (r : Result A E) (a b : Option (List ℕ)) (n : ℕ) (xs : List ℕ) → Consumes a b (take n xs) → OnErr r ((m : ℕ) × Consumes a b (take m xs))
-on_err (Ok x) a b n xs read = tt
-on_err (Err e) a b n xs read = (n, read)
+on_err : {A E : Type 0} (r : Result A E) (a b : Option (List ℕ)) (n : ℕ) (xs : List ℕ) → n < length xs → Consumes a b (take n xs)
+    → OnErr r ((m : ℕ) × (m < length xs) × Consumes a b (take m xs))
+on_err (Ok x) a b n xs some read = tt
+on_err (Err e) a b n xs some read = (n, some, read)
 
 pub loop-done-init : goal.loop-done-init
 loop-done-init g c = (search rules, search rules, Consumes-nil _)
@@ -53,7 +58,7 @@ loop-done-preserved g c =
 pub returns-in_err-n-clause-err : goal.returns-in_err-n-clause-err
 returns-in_err-n-clause-err g c =
     let before = c.loop-done.invariant in
-    on_err _ _ _ _ _ (kept _ _ _ c.loop-done.done _ c.loop-done.buf c.read.new.buf before.1 before.2 c.in_err-n.ensures.bytes)
+    on_err _ _ _ _ _ (search rules) (kept _ _ _ c.loop-done.done _ c.loop-done.buf c.read.new.buf before.1 before.2 c.in_err-n.ensures.bytes)
 
 pub returns-then-n-eq0-clause-bytes : goal.returns-then-n-eq0-clause-bytes
 returns-then-n-eq0-clause-bytes g c =

@@ -93,20 +93,20 @@ squared m e d b f i z one =
     limit d h = omega arith
 
 pub overflow_sub-z : goal.overflow_sub-z
-overflow_sub-z c = omega (arith, c.digits-z.ensures, size-le c.args.m p c.requires.most)
+overflow_sub-z c = omega (arith, c.digits-z.ensures, size-le c.args.p.m p c.args.p.fields.most)
 
 pub overflow_mul-result : goal.overflow_mul-result
-overflow_mul-result c = double c.args.m c.digits-z.result c.requires.some c.requires.most c.digits-z.ensures
+overflow_mul-result c = double c.args.p.m c.digits-z.result c.args.p.fields.some c.args.p.fields.most c.digits-z.ensures
 
 pub returns-then-g-eq0 : goal.returns-then-g-eq0
 returns-then-g-eq0 c = let d = c.digits-z in
-    let n = (c.args.m * 2 ^ (p - d.result)) % 2 ^ 64 in
-    subst (λ (y : ℕ). Squared binary64 c.args.m c.args.e y ((c.args.e + l - (p - d.result)) / 2)) (omega arith)
-    (squared c.args.m c.args.e d.result 0 c.requires d.ensures c.if-g-eq0.true (omega arith))
+    let n = (c.args.p.m * 2 ^ (p - d.result)) % 2 ^ 64 in
+    subst (λ (y : ℕ). Squared binary64 c.args.p.m c.args.p.e y ((c.args.p.e + l - (p - d.result)) / 2)) (omega arith)
+    (squared c.args.p.m c.args.p.e d.result 0 c.args.p.fields d.ensures c.if-g-eq0.true (omega arith))
 
 pub returns-else-g-eq0 : goal.returns-else-g-eq0
 returns-else-g-eq0 c = let d = c.digits-z in
-    squared c.args.m c.args.e d.result 1 c.requires d.ensures (odd (c.args.e + l - (p - d.result)) c.if-g-eq0.false) (omega arith)
+    squared c.args.p.m c.args.p.e d.result 1 c.args.p.fields d.ensures (odd (c.args.p.e + l - (p - d.result)) c.if-g-eq0.false) (omega arith)
   where
     odd : (x : ℕ) → (x % 2 ≡ 0 → ⊥) → x % 2 ≡ 1
     odd x h = omega arith

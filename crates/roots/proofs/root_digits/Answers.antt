@@ -15,10 +15,10 @@ pub loop-i-preserved : goal.loop-i-preserved
 loop-i-preserved c =
     let l = c.loop-i in
     let r = c.root_step-d.result in
-    again c.args.n l.d.a l.d.q l.d.r r.a r.q r.r l.i l.invariant (omega arith) c.root_step-d.ensures
+    again c.args.n l.d.a l.d.q l.d.r r.a r.q r.r l._i l.invariant (omega arith) c.root_step-d.ensures
 
 pub overflow_mul-d-2 : goal.overflow_mul-d-2
 overflow_mul-d-2 c = let l = c.loop-i in twice l.d.q (lt_of_lt_of_le l.invariant.short (pow_mono l.invariant.within))
 
 pub returns : goal.returns
-returns c = let l = c.loop-i in end c.args.n l.d.a l.d.q l.d.r l.i c.to_odd.result l.invariant (omega arith) c.to_odd.ensures
+returns c = let l = c.loop-i in end c.args.n l.d.a l.d.q l.d.r l._i c.to_odd.result l.invariant (omega arith) c.to_odd.ensures

@@ -5,6 +5,6 @@ use Rattle.writer.proofs.write_record.Goals as goal
 
 pub returns : goal.returns
 returns c = let a = c.args in
-    let both = wrote a.it a.out.now c.parts_of-parts.result c.parts_of-parts.ensures c.size_of-size.result c.size_of-size.ensures _ _ _ _
-    c.if-out-size.false c.store_head-behind.ensures c.store_shape.ensures in
+    let both = wrote a.it a.out.now c.parts_of-code.result c.parts_of-code.ensures c.size_of.result c.size_of.ensures _ _ _ _
+    c.if-out-size_of.false c.store_head-behind.ensures c.store_shape.ensures in
     record { answers = both.0; leaves = both.1 }

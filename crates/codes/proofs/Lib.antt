@@ -1,2 +1,0 @@
--- Answered: what masked shows of a whole record, passed on.
-pub mod Answered

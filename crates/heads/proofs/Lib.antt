@@ -1,2 +1,0 @@
--- What the field readers' proofs share.
-pub mod Places

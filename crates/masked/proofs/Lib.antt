@@ -1,2 +1,0 @@
--- Answered: the book's readings by the answers that the code takes apart.
-pub mod Answered

@@ -1,2 +1,0 @@
--- The gates of the codes that share a shape.
-pub mod Gates

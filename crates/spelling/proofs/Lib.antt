@@ -1,2 +1,0 @@
--- Spelled: the contracts case by case.
-pub mod Spelled
