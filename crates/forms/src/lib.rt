@@ -3,9 +3,10 @@
 // An inner room: its function asks for keys whose pairs lie apart, and its callers are proved.
 #![tactic(auto)]
 
-ghost use Rattle.std.specs.Prelude.{◌+◌, ◌<◌, ◌^◌};
+ghost use Rattle.std.specs.Prelude.{◌+◌, ◌-◌, ◌<◌, ◌^◌};
 ghost use Rattle.book.specs.Lent.{before, after, here};
 ghost use Rattle.pairs.specs.Pairs.{Keyed, Swept};
+ghost use Rattle.pairs.specs.Runs.{Runs};
 
 use pairs::{read_pair, write_pair};
 use rules::Rule;
@@ -13,6 +14,29 @@ use runs::{Cut, runs};
 
 // From this length on a run is left to the compiler's own joining of turns.
 const LONG: usize = 32;
+
+// Neighbouring keys, in short runs, by a function of its own: in one with the other forms the compiler keeps too much outside the registers.
+#[inline(never)]
+fn short<R: Rule>(
+    reals: &mut [f64],
+    imags: &mut [f64],
+    n: u32,
+    wide: usize,
+    run: usize,
+    back0: usize,
+    back1: usize,
+    rule: R,
+)
+    requires { Runs n wide run 1 back0 back1 (here reals imags) }
+    ensures { Swept (R.rule rule) n (wide + (1 - 1)) back0 back1 (before reals imags) (after reals imags) }
+{
+    let cut = Cut {
+        wide,
+        run,
+        stride: 1,
+    };
+    runs::<R, true>(reals, imags, n, cut, back0, back1, rule);
+}
 
 // Run by run, where not every qubit is fixed. The fixed bits are cut in two: the ones that they end in give the stride,
 // and the lowest bit of the rest the length of a run.
@@ -42,7 +66,7 @@ fn by_runs<R: Rule>(
             stride: 1,
         };
         if run < LONG {
-            runs::<R, true>(reals, imags, n, cut, back0, back1, rule);
+            short(reals, imags, n, wide, run, back0, back1, rule);
             return;
         }
         runs::<R, false>(reals, imags, n, cut, back0, back1, rule);

@@ -28,13 +28,7 @@ fn turn_along<R: UpperRule>(reals: &mut [f64], imags: &mut [f64], rule: R)
 
 // w goes over the numbers that have all bits of low, rising; each is the key of a place, at w - back.
 #[inline]
-fn turn_chosen<R: UpperRule>(
-    reals: &mut [f64],
-    imags: &mut [f64],
-    low: usize,
-    back: usize,
-    rule: R,
-)
+fn turn_chosen<R: UpperRule>(reals: &mut [f64], imags: &mut [f64], low: usize, back: usize, rule: R)
     requires { Half low back (here reals imags) }
     ensures { HalfTurned (turned_at low back (R.upper rule)) (before reals imags) (after reals imags) }
 {

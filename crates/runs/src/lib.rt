@@ -1,5 +1,5 @@
 // The chosen pairs run by run, for the gates that need no F: each run is lent as one part of both buffers.
-// An inner room: its function asks for the cut of the fixed bits, and its callers are proved.
+// An inner room: its function asks for the cut of the fixed bits, and its callers are proved. Each is set in where it is called, with the numbers known there.
 #![tactic(auto)]
 
 ghost use Rattle.std.specs.Prelude.{◌+◌, ◌-◌};
@@ -11,6 +11,7 @@ use pairs::{read_pair, write_pair, write_two};
 use rules::Rule;
 
 // One pair at a turn, at each stride-th place.
+// Stays: a `while`, here and below. `(0..run).step_by(stride)` tests the end twice a turn: with it X and Y took up to a third longer in short runs.
 #[inline(always)]
 fn along<R: Rule>(
     reals: &mut [f64],

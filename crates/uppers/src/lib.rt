@@ -48,6 +48,7 @@ fn turn_blocks<R: UpperRule>(
 
 // Stays: the arms are one call, since in an arm the compiler knows the number that was matched, and leaves the loop of a half out; without them Z at the
 // lowest targets is slower.
+#[inline(never)]
 fn by_target<R: UpperRule>(
     reals: &mut [f64],
     imags: &mut [f64],

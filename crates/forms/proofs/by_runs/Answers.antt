@@ -6,11 +6,11 @@ use Rattle.forms.proofs.by_runs.Goals as goal
 pub overflow_sub-wide-2 : goal.overflow_sub-wide-2
 overflow_sub-wide-2 g c = let pre = c.requires in W.low_fits pre.0 pre.1
 
+pub short-requires : goal.short-requires
+short-requires g c = let pre = c.requires in W.runs_as pre.0 pre.1 c.if-stride-eq1.true
+
 pub runs-requires : goal.runs-requires
 runs-requires g c = let pre = c.requires in W.runs_as pre.0 pre.1 c.if-stride-eq1.true
-
-pub runs-requires-then-stride-eq1 : goal.runs-requires-then-stride-eq1
-runs-requires-then-stride-eq1 g c = let pre = c.requires in W.runs_as pre.0 pre.1 c.if-stride-eq1.true
 
 pub runs-requires-then-back0-eq1 : goal.runs-requires-then-back0-eq1
 runs-requires-then-back0-eq1 g c = let pre = c.requires in W.runs_near pre.0 pre.1
