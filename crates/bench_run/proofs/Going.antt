@@ -2,7 +2,7 @@
 use Rattle.std.proofs.Common.{◌≡◌, Result, Ok, Err, IfOk, OnOk, OnErr, is_ok, length-take, ℕ, ◌+◌, ◌%◌, ◌^◌, ◌<◌, ◌≤◌, Bool, true}
 use Rattle.std.proofs.Common.{false, List, [], ◌++◌, length, take, drop, sym, refl, ap, ◌∙◌, subst, arith, mod-eq_of_lt, length-append, take_at, drop_at}
 use mathlib.Core.Path.{ap₂}
-use Rattle.std.specs.declared.option.Option.{Option}
+use Rattle.std.specs.Prelude.{Option, Some, None, option_map}
 use Rattle.std.specs.Result.{result_unwrap_or}
 use Rattle.std.specs.Io.KnownBytes.{Consumes, Appends}
 use Rattle.std.proofs.KnownBytes.{Consumes-nil, Consumes-trans, Appends-nil, Appends-trans}
@@ -15,7 +15,6 @@ use Rattle.first_state.specs.First.{first_state}
 use Rattle.frames.specs.Streams.{Rest, begun, stream_of}
 use Rattle.headers.specs.Headers.{header_of}
 use Rattle.headers.specs.declared.Header.{Header}
-use Rattle.headers.specs.declared.Header.TheVariants.{Good, Bad}
 use Rattle.headers.proofs.Reading.{header_eight, too_short}
 use Rattle.once.specs.AllOnce.{bench}
 use Rattle.once.specs.Answered.{Answered, answers_of}
@@ -25,17 +24,6 @@ use Rattle.program.proofs.Pieces.{lines_on, index_on}
 use Rattle.program.specs.Program.{Run, fresh, lines_of, printed_by, printed}
 use Rattle.stream.specs.Lines.{bad_header_line}
 use Rattle.bench_run.specs.Turns.{Begins, Writes, Closes, Goes, WritesOf}
-
--- ---- what a write took
-
-pub taken : {A E P : Type 0} (r : Result A E) {ok : Bool} → ok ≡ is_ok r → ok ≡ true → OnOk r P → P
-taken (Ok x) is took p = p
-taken (Err e) is took p = let z : ◌≡◌ {A = Bool} false true = sym is ∙ took in cc
-
--- where turns are left, the output took all that it was given
-pub still_open : (more open' : Bool) (turns : ℕ) → (more ≡ true → open' ≡ true) → (more ≡ false → turns ≡ 0) → 0 < turns → open' ≡ true
-still_open true open' turns goes ends some = goes refl
-still_open false open' turns goes ends some = absurd (omega (arith, ends refl, some))
 
 -- ---- turns
 
@@ -120,38 +108,65 @@ from_start n own from from' to to' is state a =
 
 -- ---- behind the header
 
-clash : {A : Type 0} {n own : ℕ} {h : Header} → Good n own ≡ h → Bad ≡ h → A
-clash is other = let z : ◌≡◌ {A = ℕ} 0 1 = cc in absurd (omega arith)
+clash : {A B : Type 0} {x : A} {h : Option A} → Some x ≡ h → None ≡ h → B
+clash {h = Some x} is other = let z : ◌≡◌ {A = ℕ} 0 1 = cc in absurd (omega arith)
+clash {h = None} is other = let z : ◌≡◌ {A = ℕ} 0 1 = cc in absurd (omega arith)
 
-printed_good : (bs frames : List ℕ) {n own : ℕ} → length bs ≤ 8 → Good n own ≡ header_of bs
-    → lines_of (Book.fresh n own) (first_state n) frames ≡ printed (bs ++ frames)
+-- what a header tells
+abbrev pub told : Header → ℕ × ℕ
+told h = (h.n, h.session)
+
+-- what the code read is what the definition reads
+tells : {r : Option Header} {h : Option Header} {o : Option (ℕ × ℕ)} → option_map told r ≡ o → r ≡ h → option_map told h ≡ o
+tells is e = sym (ap (option_map told) e) ∙ is
+
+printed_good : (bs frames : List ℕ) {h : ℕ × ℕ} → length bs ≤ 8 → Some h ≡ header_of bs
+    → lines_of (Book.fresh h.0 h.1) (first_state h.0) frames ≡ printed (bs ++ frames)
 unfolding printed
-printed_good bs frames {n} {own} most is =
-    let long : (length bs < 8 → ⊥) = λ (h : length bs < 8). clash is (too_short bs h) in
+printed_good bs frames {h} most is =
+    let long : (length bs < 8 → ⊥) = λ (few : length bs < 8). clash is (too_short bs few) in
     let eight : length bs ≡ 8 = omega (arith, long) in
-    let header : Good n own ≡ header_of (bs ++ frames) = is ∙ sym (ap header_of (take_at bs frames 8 eight)) ∙ header_eight (bs ++ frames) in
+    let header : Some h ≡ header_of (bs ++ frames) = is ∙ sym (ap header_of (take_at bs frames 8 eight)) ∙ header_eight (bs ++ frames) in
     ap₂ printed_by header (sym (drop_at bs frames 8 eight))
 
-printed_bad : (bs : List ℕ) → Bad ≡ header_of bs → bad_header_line ≡ printed bs
+printed_bad : (bs : List ℕ) → None ≡ header_of bs → bad_header_line ≡ printed bs
 unfolding printed
-printed_bad bs is = ap (λ (h : Header). printed_by h (drop 8 bs)) is
+printed_bad bs is = ap (λ (h : Option (ℕ × ℕ)). printed_by h (drop 8 bs)) is
 
 -- a good header was read whole
-pub header_read : {E : Type 0} (r : Result ℕ E) (got : ℕ) (head : List ℕ) (from from' : Option (List ℕ)) {n own : ℕ} → got ≡ result_unwrap_or r 0
-    → Good n own ≡ header_of (take got head) → IfOk r (λ k. Consumes from from' (take k head)) → Consumes from from' (take got head)
+header_read : {E : Type 0} (r : Result ℕ E) (got : ℕ) (head : List ℕ) (from from' : Option (List ℕ)) {h : ℕ × ℕ} → got ≡ result_unwrap_or r 0
+    → Some h ≡ header_of (take got head) → IfOk r (λ k. Consumes from from' (take k head)) → Consumes from from' (take got head)
 header_read (Ok k) got head from from' are is read = subst (λ (m : ℕ). Consumes from from' (take m head)) (sym are) read
 header_read (Err e) got head from from' are is read = clash is (too_short (take got head) (omega (arith, length-take got head, are)))
 
-pub answers_good : {n own : ℕ} (from from₁ from₂ to to' : Option (List ℕ)) (bs : List ℕ) → length bs ≤ 8 → Good n own ≡ header_of bs → Consumes from from₁ bs
-    → WritesOf (lines_of (Book.fresh n own) (first_state n)) from₁ from₂ to to' → WritesOf printed from from₂ to to'
-answers_good from from₁ from₂ to to' bs most is read a =
-    (bs ++ a.0, Consumes-trans from from₁ from₂ bs a.0 read a.1, subst (Appends to to') (printed_good bs a.0 most is) a.2)
+pub ends_well : {A E P Q : Type 0} (r : Result A E) → (P → Q) → OnOk r P → OnOk r Q
+ends_well (Ok x) f p = f p
+ends_well (Err e) f p = tt
 
-pub answers_bad : {E : Type 0} (r : Result ℕ E) (got : ℕ) (head : List ℕ) (from from' to to' : Option (List ℕ)) → got ≡ result_unwrap_or r 0 → length head ≡ 8
-    → Bad ≡ header_of (take got head) → IfOk r (λ k. Consumes from from' (take k head))
-    → OnErr r ((m : ℕ) × (m < length head) × Consumes from from' (take m head)) → Appends to to' bad_header_line → WritesOf printed from from' to to'
-answers_bad (Ok k) got head from from' to to' are long is read lost put =
-    (take got head, subst (λ (m : ℕ). Consumes from from' (take m head)) (sym are) read, subst (Appends to to') (printed_bad (take got head) is) put)
-answers_bad (Err e) got head from from' to to' are long is read lost put =
+pub answers_good : {A E F : Type 0} (r : Result ℕ E) (out : Result A F) (got : ℕ) (head : List ℕ) (from from₁ from₂ to to' : Option (List ℕ))
+    {read : Option Header} {h : Header}
+    → got ≡ result_unwrap_or r 0 → length head ≡ 8 → option_map told read ≡ header_of (take got head) → read ≡ Some h
+    → IfOk r (λ k. Consumes from from₁ (take k head))
+    → OnOk out (WritesOf (lines_of (Book.fresh h.n h.session) (first_state h.n)) from₁ from₂ to to') → OnOk out (WritesOf printed from from₂ to to')
+answers_good r out got head from from₁ from₂ to to' are long tell good read =
+    let is = tells tell good in
+    let whole = header_read r got head from from₁ are is read in
+    let bs = take got head in
+    let most : length bs ≤ 8 = omega (arith, length-take got head, long) in
+    ends_well out
+    (λ a. (bs ++ a.0, Consumes-trans from from₁ from₂ bs a.0 whole a.1, subst (Appends to to') (printed_good bs a.0 most is) a.2))
+
+pub answers_bad : {A E F : Type 0} (r : Result ℕ E) (out : Result A F) (got : ℕ) (head : List ℕ) (from from' to to' : Option (List ℕ))
+    {read : Option Header}
+    → got ≡ result_unwrap_or r 0 → length head ≡ 8 → option_map told read ≡ header_of (take got head) → read ≡ None
+    → IfOk r (λ k. Consumes from from' (take k head))
+    → OnErr r ((m : ℕ) × (m < length head) × Consumes from from' (take m head))
+    → OnOk out (Appends to to' bad_header_line) → OnOk out (WritesOf printed from from' to to')
+answers_bad (Ok k) out got head from from' to to' are long tell bad read lost =
+    let is = tells tell bad in
+    ends_well out
+    (λ put. (take got head, subst (λ (m : ℕ). Consumes from from' (take m head)) (sym are) read, subst (Appends to to') (printed_bad (take got head) is) put))
+answers_bad (Err e) out got head from from' to to' are long tell bad read lost =
     let few : length (take lost.0 head) < 8 = omega (arith, length-take lost.0 head, lost.1, long) in
-    (take lost.0 head, lost.2, subst (Appends to to') (printed_bad (take lost.0 head) (too_short (take lost.0 head) few)) put)
+    ends_well out
+    (λ put. (take lost.0 head, lost.2, subst (Appends to to') (printed_bad (take lost.0 head) (too_short (take lost.0 head) few)) put))

@@ -7,6 +7,7 @@ ghost use Rattle.io.specs.Counts.{IsPrefixLen};
 ghost use Rattle.program.specs.Program.{run_of};
 ghost use Rattle.bench_run.specs.Turns.{Writes, Closes};
 
+use act::Engine;
 use program::{OUT, PIECE, Running};
 use std::io::Read;
 
@@ -19,8 +20,7 @@ pub(crate) struct Turn {
 }
 
 // A piece is read and taken; a read that fails is the end of the input. Its lines stand at the start of `out`, all of them.
-pub(crate) fn take_turn<R: Read>(
-    engine: u32,
+pub(crate) fn take_turn<E: Engine, R: Read>(
     input: &mut R,
     from: Running,
     chunk: &mut [u8; PIECE],
@@ -35,10 +35,9 @@ pub(crate) fn take_turn<R: Read>(
 {
     let got = input.read(chunk).unwrap_or(0);
     let piece = &chunk[..];
-    let printed = program::put_piece(engine, from, &piece[..got], out, 0, reals, imags);
-    let next = printed.next;
+    let printed = program::put_piece::<E>(from, &piece[..got], out, 0, reals, imags);
     Turn {
-        next,
+        next: printed.next,
         got,
         at: printed.at,
     }

@@ -5,11 +5,10 @@ ghost use Rattle.book.specs.Answers.{Does};
 ghost use Rattle.book.specs.Calls.{act};
 ghost use Rattle.book.specs.Lent.{before, after, here};
 ghost use Rattle.book.specs.State.{uncontrolled};
-ghost use Rattle.book.specs.declared.Gate.TheVariants as Gate;
 ghost use Rattle.seated.specs.Judging.{Seated};
 ghost use Rattle.measurement.specs.Resets.{Reset};
 
-use book::{Answer, Controls, Forced};
+use book::{Answer, Controls, Forced, Gate};
 use chances::{chance, one_over_root};
 use collapses::collapse;
 use rules::X;
@@ -36,10 +35,9 @@ pub fn measure_qubit(
     ensures { Does (act n (Gate.Measure target forced) (before reals imags)) result (after reals imags) }
 {
     judging::free_seat(reals, imags, n, target)?;
-    let outcome = forced.outcome;
-    let p = chance(reals, imags, n, target, outcome);
+    let p = chance(reals, imags, n, target, forced.outcome);
     chances::own(forced, p)?;
-    collapse(reals, imags, n, target, outcome, one_over_root(p));
+    collapse(reals, imags, n, target, forced.outcome, one_over_root(p));
     set_back(reals, imags, n, target, forced);
-    Ok(Some(outcome))
+    Ok(Some(forced.outcome))
 }

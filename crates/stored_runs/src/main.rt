@@ -2,24 +2,24 @@
 // with its name: by the kernels, and then by the slow engine. docs/VECTORS-BENCH.md says what each shows and how it was made.
 #![tactic(auto)]
 
-use act::{FAST, SLOW};
+use act::{Engine, Fast, Slow};
 use std::rt::Files;
 use std::{env, fs, io};
 
-fn run_stored(rt: &(impl Files + Print), engine: u32, name: &str, heading: &str) -> io::Result<()> {
+fn run_stored<E: Engine, T: Files + Print>(rt: &T, name: &str, heading: &str) -> io::Result<()> {
     println!(rt; "{name}{heading}")?;
     match fs::open(rt, name) {
         Ok(mut input) => {
-            bench_run::run_from(engine, &mut input, &mut io::writer(rt));
+            let _ = bench_run::run_from::<E, _, _>(&mut input, &mut io::writer(rt));
             Ok(())
         }
         Err(_) => println!(rt; "NOT OPENED"),
     }
 }
 
-fn run_argument(rt: &(impl Files + Print), name: &str) -> io::Result<()> {
-    run_stored(rt, FAST, name, ":")?;
-    run_stored(rt, SLOW, name, " by the slow engine:")
+fn run_argument<T: Files + Print>(rt: &T, name: &str) -> io::Result<()> {
+    run_stored::<Fast, T>(rt, name, ":")?;
+    run_stored::<Slow, T>(rt, name, " by the slow engine:")
 }
 
 // Argument 0 is the program's own name.

@@ -2,7 +2,7 @@
 -- Assumes nothing.
 use Prim.Native.Nat.{ℕ, ◌+◌, ◌-◌, ◌^◌, ◌≤◌, ◌<◌}
 use native.Mathlib.Omega.{arith}
-use mathlib.Core.List.{List, [], ◌++◌}
+use mathlib.Core.List.{List, [], ◌∷◌, ◌++◌, append-nil, append_assoc}
 use mathlib.Core.Path.{◌≡◌, refl, sym, ap, ap₂, ◌∙◌, subst}
 use lib.ListN.{length, take, drop}
 use lib.Seq.{take_all, take-add}
@@ -14,7 +14,7 @@ use Rattle.feeding.specs.Feeding.{rest_in, cuts}
 use Rattle.headers.specs.Headers.{header_of}
 use Rattle.frames.specs.Streams.{Rest, begun, stream_of}
 use Rattle.headers.specs.declared.Header.{Header}
-use Rattle.headers.specs.declared.Header.TheVariants.{Good, Bad}
+use Rattle.std.specs.Prelude.{Option, Some, None, option_map}
 use Rattle.once.specs.AllOnce.{bench}
 use Rattle.once.specs.Answered.{Answered, answers_of}
 use Rattle.puts.proofs.Puts.{put_then}
@@ -28,32 +28,34 @@ use Rattle.program.specs.Program.{lines_of, printed_by, printed, Run, fresh, Pri
 
 -- ---- piece after piece
 
--- the first `done` bytes are taken, and their lines are put
-pub record Part (x : Run) (b : Buffers) (bytes l : List ℕ) (done : ℕ) (x' : Run) (b' : Buffers) (next : ℕ) (l' : List ℕ) : Type 0 where
+-- `rest` of the bytes is left, and the lines of those before it are put
+pub record Part (x : Run) (b : Buffers) (bytes l rest : List ℕ) (x' : Run) (b' : Buffers) (next : ℕ) (l' : List ℕ) : Type 0 where
   pub small : x.index < 2 ^ 64
-  pub within : done ≤ length bytes
   pub same : SameSize b b'
-  pub prints : Prints x b (take done bytes) l 0 x' b' next l'
+  pub before : List ℕ
+  pub whole : before ++ rest ≡ bytes
+  pub prints : Prints x b before l 0 x' b' next l'
 
-pub part_none : {x : Run} {b : Buffers} {bytes l : List ℕ} → x.index < 2 ^ 64 → Part x b bytes l 0 x b 0 l
-part_none small =
-    record { small = small; within = omega arith; same = record { reals = refl; imags = refl }; prints = prints_none small (omega arith) }
+pub part_none : {x : Run} {b : Buffers} {bytes l rest : List ℕ} → x.index < 2 ^ 64 → rest ≡ bytes → Part x b bytes l rest x b 0 l
+part_none small all =
+    record { small = small; same = record { reals = refl; imags = refl }; before = []; whole = all; prints = prints_none small (omega arith) }
 
-pub part_more : {x x₁ x₂ : Run} {b b₁ b₂ : Buffers} {bytes l l₁ l₂ : List ℕ} {done size at₁ at₂ : ℕ}
-    → Part x b bytes l done x₁ b₁ at₁ l₁ → size ≤ length bytes - done
-    → Prints x₁ b₁ (take (done + size - done) (drop done bytes)) l₁ at₁ x₂ b₂ at₂ l₂ → SameSize b₁ b₂ → Part x b bytes l (done + size) x₂ b₂ at₂ l₂
-part_more {bytes = bytes} {done = done} {size = size} p fits q keeps =
-    let lent : done + size - done ≡ size = omega arith in
+pub part_more : {x x₁ x₂ : Run} {b b₁ b₂ : Buffers} {bytes l l₁ l₂ rest piece behind : List ℕ} {at₁ at₂ : ℕ}
+    → Part x b bytes l rest x₁ b₁ at₁ l₁ → rest ≡ piece ++ behind → Prints x₁ b₁ piece l₁ at₁ x₂ b₂ at₂ l₂ → SameSize b₁ b₂
+    → Part x b bytes l behind x₂ b₂ at₂ l₂
+part_more {piece = piece} {behind = behind} p cut q keeps =
     record {
       small = p.small;
-      within = omega (arith, p.within);
       same = record { reals = keeps.reals ∙ p.same.reals; imags = keeps.imags ∙ p.same.imags };
-      prints = rw (take-add done size bytes) (prints_then p.small p.prints (rw lent at q));
+      before = p.before ++ piece;
+      whole = append_assoc p.before piece behind ∙ ap (λ (r : List ℕ). p.before ++ r) (sym cut) ∙ p.whole;
+      prints = prints_then p.small p.prints q;
     }
 
-pub part_all : {x x' : Run} {b b' : Buffers} {bytes l l' : List ℕ} {done next : ℕ}
-    → Part x b bytes l done x' b' next l' → length bytes ≤ done → Prints x b bytes l 0 x' b' next l'
-part_all {bytes = bytes} {done = done} p past = rw (take_all done bytes past) at p.prints
+pub part_all : {x x' : Run} {b b' : Buffers} {bytes l l' rest : List ℕ} {next : ℕ}
+    → Part x b bytes l rest x' b' next l' → length rest ≡ 0 → Prints x b bytes l 0 x' b' next l'
+part_all {rest = []} p none = rw (sym (append-nil p.before) ∙ p.whole) at p.prints
+part_all {rest = r ∷ rest} p none = absurd (omega arith)
 
 -- ---- and what stands behind them
 
@@ -89,14 +91,19 @@ from_start n own bytes {l = l} {l' = l'} {next = next} is state put =
     (ap₂ (λ (y : Run) (c : Buffers). lines_of y.form.session c bytes) is state)
     (put (ap (λ (y : Run). y.index) is) (ap (λ (y : Run). rest_in y.form) is ∙ fresh_rest n own))
 
-pub printed_good : (input : List ℕ) {h : Header} {n own next : ℕ} {frames l l' : List ℕ} → h ≡ header_of input → h ≡ Good n own → frames ≡ drop 8 input
-    → Put (lines_of (Book.fresh n own) (first_state n) frames) l 0 next l' → Put (printed input) l 0 next l'
-unfolding printed
-printed_good input {h} {n} {own} {next} {frames} {l} {l'} is good behind put =
-    subst (λ (ws : List ℕ). Put ws l 0 next l') (ap₂ printed_by (sym good ∙ is) behind) put
+-- what a header tells
+abbrev pub told : Header → ℕ × ℕ
+told h = (h.n, h.session)
 
-pub printed_bad : (input : List ℕ) {h : Header} {next : ℕ} {l l' : List ℕ} → h ≡ header_of input → h ≡ Bad → Put bad_header_line l 0 next l'
-    → Put (printed input) l 0 next l'
+pub printed_good : (input : List ℕ) {r : Option Header} {h : Header} {next : ℕ} {frames l l' : List ℕ}
+    → option_map told r ≡ header_of input → r ≡ Some h → frames ≡ drop 8 input
+    → Put (lines_of (Book.fresh h.n h.session) (first_state h.n) frames) l 0 next l' → Put (printed input) l 0 next l'
 unfolding printed
-printed_bad input {h} {next} {l} {l'} is bad put =
-    subst (λ (ws : List ℕ). Put ws l 0 next l') (ap (λ (g : Header). printed_by g (drop 8 input)) (sym bad ∙ is)) put
+printed_good input {r} {h} {next} {frames} {l} {l'} is good behind put =
+    subst (λ (ws : List ℕ). Put ws l 0 next l') (ap₂ printed_by (sym (ap (option_map told) good) ∙ is) behind) put
+
+pub printed_bad : (input : List ℕ) {r : Option Header} {next : ℕ} {l l' : List ℕ} → option_map told r ≡ header_of input → r ≡ None
+    → Put bad_header_line l 0 next l' → Put (printed input) l 0 next l'
+unfolding printed
+printed_bad input {r} {next} {l} {l'} is bad put =
+    subst (λ (ws : List ℕ). Put ws l 0 next l') (ap (λ (g : Option (ℕ × ℕ)). printed_by g (drop 8 input)) (sym (ap (option_map told) bad) ∙ is)) put

@@ -10,15 +10,14 @@ ghost use Rattle.frames.specs.Streams.{begun};
 ghost use Rattle.puts.specs.Put.{Put};
 ghost use Rattle.program.specs.Program.{lines_of, printed, run_of, Prints};
 
+use act::Engine;
 use first_state::{MOST_PLACES, first_reals};
 use headers::{Header, behind_header, read_header};
-use once::next_size;
 use printing::put_bad_header;
 use program::{PIECE, Printed, Running, put_end, put_piece, start};
 
 // Piece after piece, as bench_run reads them.
-fn put_pieces(
-    engine: u32,
+fn put_pieces<E: Engine>(
     from: Running,
     bytes: &[u8],
     out: &mut [u8],
@@ -30,20 +29,16 @@ fn put_pieces(
 {
     let mut next = from;
     let mut at: usize = 0;
-    let mut done: usize = 0;
-    while done < bytes.len() {
-        let end = done + next_size(PIECE, bytes.len() - done);
-        let printed = put_piece(engine, next, &bytes[done..end], out, at, reals, imags);
+    for piece in bytes.chunks(PIECE) {
+        let printed = put_piece::<E>(next, piece, out, at, reals, imags);
         next = printed.next;
         at = printed.at;
-        done = end;
     }
     Printed { next, at }
 }
 
 // The frames' lines, and those behind them, of a run that begins here.
-fn put_lines(
-    engine: u32,
+fn put_lines<E: Engine>(
     from: Running,
     frames: &[u8],
     out: &mut [u8],
@@ -53,21 +48,19 @@ fn put_lines(
     ensures { (run_of from).index ≡ 0 → rest_in (run_of from).form ≡ begun []
         → Put (lines_of (run_of from).form.session (before reals imags) frames.now) out.old 0 result out.new }
 {
-    let printed = put_pieces(engine, from, frames, out, reals, imags);
+    let printed = put_pieces::<E>(from, frames, out, reals, imags);
     put_end(printed.next, reals, imags, out, printed.at)
 }
 
 // In the places of n qubits.
-fn put_run(engine: u32, n: u32, number: u32, frames: &[u8], out: &mut [u8]) -> usize
-    requires { n ≤ 11 }
-    ensures { Put (lines_of (Book.fresh n number) (first_state n) frames.now) out.old 0 result out.new }
+fn put_run<E: Engine>(header: Header, frames: &[u8], out: &mut [u8]) -> usize
+    ensures { Put (lines_of (Book.fresh header.n header.session) (first_state header.n) frames.now) out.old 0 result out.new }
 {
-    let size: usize = 1 << n;
+    let size: usize = 1 << header.n;
     let mut reals = first_reals();
     let mut imags = [0.0; MOST_PLACES];
-    put_lines(
-        engine,
-        start(n, number),
+    put_lines::<E>(
+        start(header.n, header.session),
         frames,
         out,
         &mut reals[0..size],
@@ -76,11 +69,11 @@ fn put_run(engine: u32, n: u32, number: u32, frames: &[u8], out: &mut [u8]) -> u
 }
 
 // From the whole input to the whole output, as far as the buffer goes: what the program prints. The answer is how many bytes stand there.
-pub fn print_all(engine: u32, input: &[u8], out: &mut [u8]) -> usize
+pub fn print_all<E: Engine>(input: &[u8], out: &mut [u8]) -> usize
     ensures { Put (printed input.now) out.old 0 result out.new }
 {
     match read_header(input) {
-        Header::Good(n, number) => put_run(engine, n, number, behind_header(input), out),
-        Header::Bad => put_bad_header(out, 0),
+        Some(header) => put_run::<E>(header, behind_header(input), out),
+        None => put_bad_header(out, 0),
     }
 }

@@ -15,9 +15,11 @@ short s =
     let many = length-map (1 ∷ replicate (2 ^ n - 1) 0) whole in
     omega (arith, ap (λ (b : Buffers). length b.reals) s.state, many, length-replicate {A = ℕ} (2 ^ n - 1) 0, (places n s.few).0, (places n s.few).1)
 
-pub write_closing-written-requires : goal.write_closing-written-requires
-write_closing-written-requires g c = omega (arith, short c.requires, c.take_input-behind.auto.reals)
+pub write_closing-requires : goal.write_closing-requires
+write_closing-requires g c = omega (arith, short c.requires, c.take_input.auto.reals)
 
-pub returns-then-behind : goal.returns-then-behind
-returns-then-behind g c written =
-    goes_to_its_end _ _ _ _ _ c.requires (c.take_input-behind.ensures c.if-behind.true) (c.write_closing-written.ensures (c.unless_lost.ensures.lost written))
+pub returns-then-is_cut : goal.returns-then-is_cut
+returns-then-is_cut g c = goes_to_its_end _ _ _ _ _ c.requires c.in_ok-end.ensures c.in_ok-write_closing.ensures
+
+pub returns-else-is_cut : goal.returns-else-is_cut
+returns-else-is_cut g c = goes_to_its_end _ _ _ _ _ c.requires c.in_ok-end.ensures c.in_ok-write_closing.ensures

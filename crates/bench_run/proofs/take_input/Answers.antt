@@ -1,17 +1,17 @@
 use Rattle.std.proofs.Common.{refl, rules}
-use Rattle.bench_run.proofs.Going.{taken, still_open, goes_none, goes_then}
+use Rattle.bench_run.proofs.Going.{goes_none, goes_then}
 use Rattle.bench_run.proofs.take_input.Goals as goal
 
-pub loop-turns-init : goal.loop-turns-init
-loop-turns-init g c = (refl, refl, λ _. refl, λ _. goes_none _ _ _ _ (search rules))
+pub loop-turn-init : goal.loop-turn-init
+loop-turn-init g c = (refl, refl, goes_none _ _ _ _ (search rules))
 
-pub loop-turns-preserved : goal.loop-turns-preserved
-loop-turns-preserved g c =
-    let before = c.loop-turns.invariant in
+pub loop-turn-preserved : goal.loop-turn-preserved
+loop-turn-preserved g c =
     let turn = c.take_turn-turn.ensures in
-    let goes = before.3 (before.2 c.loop-turns-test.true) in (
-      search rules,
-      search rules,
-      λ some. still_open _ _ _ c.goes_on.ensures c.left-turns.ensures.ends some,
-      λ open'. goes_then _ _ _ _ _ _ (search rules) goes turn.reads turn.writes (taken _ c.is_ok-open.ensures.value open' c.write_all.ensures.bytes),
-    )
+    (search rules, search rules, goes_then _ _ _ _ _ _ (search rules) c.loop-turn.invariant.2 turn.reads turn.writes c.in_ok-write_all.ensures.bytes)
+
+-- behind the end of the input, and behind a wrong tag
+pub returns-then-turn-eq0 : goal.returns-then-turn-eq0
+returns-then-turn-eq0 g c =
+    let turn = c.take_turn-turn.ensures in
+    goes_then _ _ _ _ _ _ (search rules) c.loop-turn.invariant.2 turn.reads turn.writes c.in_ok-write_all.ensures.bytes

@@ -2,9 +2,8 @@
 use Rattle.whole_run.proofs.Whole.{printed_good, printed_bad}
 use Rattle.whole_run.proofs.print_all.Goals as goal
 
-pub returns-in-Good : goal.returns-in-Good
-returns-in-Good c = printed_good c.args.input.now c.read_header.ensures.is c.in-Good.is c.behind_header.ensures
-    c.put_run.ensures
+pub returns-in-Some : goal.returns-in-Some
+returns-in-Some g c = printed_good c.args.input.now c.read_header.ensures c.in-Some.is c.behind_header.ensures c.put_run.ensures
 
-pub returns-in-Bad : goal.returns-in-Bad
-returns-in-Bad c = printed_bad c.args.input.now c.read_header.ensures.is c.in-Bad.is c.put_bad_header.ensures
+pub returns-in-None : goal.returns-in-None
+returns-in-None g c = printed_bad c.args.input.now c.read_header.ensures c.in-None.is c.put_bad_header.ensures

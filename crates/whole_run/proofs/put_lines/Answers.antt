@@ -3,4 +3,4 @@ use Rattle.whole_run.proofs.Whole.{closed}
 use Rattle.whole_run.proofs.put_lines.Goals as goal
 
 pub returns : goal.returns
-returns c = closed c.put_pieces-printed.ensures c.put_end.ensures
+returns g c = closed c.put_pieces-printed.ensures c.put_end.ensures

@@ -7,7 +7,7 @@ use Rattle.whole_run.proofs.put_run.Goals as goal
 
 pub returns : goal.returns
 unfolding of_int of_bits
-returns c = let n = c.args.n in
-    from_start n c.args.number c.args.frames.now c.start.ensures
-    (first_lent n c.requires c.first_reals-reals.result c.first_reals-reals.ensures refl)
+returns g c = let h = c.args.header in
+    from_start h.n h.session c.args.frames.now c.start.ensures
+    (first_lent h.n h.few c.first_reals-reals.result c.first_reals-reals.ensures refl)
     c.put_lines.ensures
