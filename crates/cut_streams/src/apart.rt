@@ -1,12 +1,14 @@
 // A stream fed whole, and then in every other way.
 ghost use Rattle.std.specs.Prelude.{◌≡◌, ◌≤◌, length};
 
-use crate::compare::{floats_differ, forms_differ, numbers_differ};
-use act::FAST;
+use crate::compare::{floats_differ, forms_differ};
+use act::Fast;
 use feeding::Feed;
 use sessions::Session;
 
 // A good header says at most 11 qubits.
+const MOST_QUBITS: u32 = 11;
+
 const MOST_PLACES: usize = 2048;
 
 // More than any of the streams has.
@@ -15,7 +17,7 @@ const MOST_ANSWERS: usize = 256;
 const MOST_BYTES: usize = 11845;
 
 // What no answer is.
-const NO_ANSWER: u32 = 4294967295;
+const NO_ANSWER: u32 = u32::MAX;
 
 #[derive(Clone, Copy)]
 pub(crate) struct Tally {
@@ -27,13 +29,7 @@ pub(crate) struct Tally {
 fn places(n: u32) -> usize
     ensures { result ≤ 2048 }
 {
-    if n < 12 {
-        let side: usize = 1 << n;
-        if side < MOST_PLACES {
-            return side;
-        }
-    }
-    MOST_PLACES
+    1 << n.min(MOST_QUBITS)
 }
 
 // In pieces of these lengths.
@@ -49,8 +45,7 @@ fn fed(
     requires imags_len { length imags.old ≡ 2048 }
 {
     let size = places(session.n);
-    Feed::start(session).take_all(
-        FAST,
+    Feed::start(session).take_all::<Fast>(
         frames,
         lengths,
         answers,
@@ -59,7 +54,7 @@ fn fed(
     )
 }
 
-// 1 where the stream in these pieces comes to anything else than the whole did.
+// Whether the stream in these pieces comes to anything else than the whole did.
 fn differs(
     session: Session,
     frames: &[u8],
@@ -68,7 +63,7 @@ fn differs(
     answers: &[u32; 256],
     reals: &[f64; 2048],
     imags: &[f64; 2048],
-) -> u64 {
+) -> bool {
     let mut other_answers = [NO_ANSWER; MOST_ANSWERS];
     let mut other_reals = [0.0; MOST_PLACES];
     let mut other_imags = [0.0; MOST_PLACES];
@@ -82,20 +77,18 @@ fn differs(
         &mut other_imags,
     );
     let size = places(session.n);
-    let states = floats_differ(reals, &other_reals, size)
-        | floats_differ(imags, &other_imags, size);
-    (forms_differ(whole, other) | numbers_differ(answers, &other_answers) | states) as u64
+    forms_differ(whole, other)
+        || *answers != other_answers
+        || floats_differ(&reals[..size], &other_reals[..size])
+        || floats_differ(&imags[..size], &other_imags[..size])
 }
 
+// How many answers there are.
 fn told(answers: &[u32; 256]) -> usize {
-    let mut i: usize = 0;
-    while i < MOST_ANSWERS {
-        if answers[i] == NO_ANSWER {
-            return i;
-        }
-        i += 1;
-    }
-    i
+    answers
+        .iter()
+        .position(|x| *x == NO_ANSWER)
+        .unwrap_or(MOST_ANSWERS)
 }
 
 // In two, at every place, the first and the last among them.
@@ -108,12 +101,11 @@ fn cut_in_two(
     imags: &[f64; 2048],
 ) -> u64 {
     let mut differ: u64 = 0;
-    let mut at: usize = 0;
-    while at <= frames.len() {
+    for at in 0..=frames.len() {
         let lengths = [at, frames.len() - at];
-        let other = differs(session, frames, &lengths, whole, answers, reals, imags);
-        differ = std::num::wrapping_add_u64(differ, other);
-        at += 1;
+        if differs(session, frames, &lengths, whole, answers, reals, imags) {
+            differ = differ.wrapping_add(1);
+        }
     }
     differ
 }
@@ -130,8 +122,8 @@ pub(crate) fn take_apart(session: Session, frames: &[u8]) -> Tally {
     let last = differs(session, frames, &bytes, whole, &answers, &reals, &imags);
     let differ = cut_in_two(session, frames, whole, &answers, &reals, &imags);
     Tally {
-        cuts: std::num::wrapping_add_u64(frames.len() as u64, 1),
+        cuts: (frames.len() as u64).wrapping_add(1),
         answers: told(&answers),
-        differ: std::num::wrapping_add_u64(differ, last),
+        differ: differ.wrapping_add(u64::from(last)),
     }
 }

@@ -8,7 +8,7 @@ mod apart;
 mod compare;
 
 use apart::take_apart;
-use headers::Header;
+use headers::{behind_header, read_header};
 use reading::read_full;
 use sessions::Session;
 use std::rt::Files;
@@ -36,16 +36,11 @@ fn report(rt: &impl Print, name: &str, session: Session, frames: &[u8]) -> io::R
 }
 
 fn run_input(rt: &impl Print, name: &str, input: &[u8]) -> io::Result<()> {
-    let header = headers::read_header(input);
-    let Header::Good(n, number) = header else {
+    let Some(header) = read_header(input) else {
         return say(rt, name, ": BAD HEADER\n");
     };
-    report(
-        rt,
-        name,
-        Session::fresh(n, number),
-        headers::behind_header(input),
-    )
+    let session = Session::fresh(header.n, header.session);
+    report(rt, name, session, behind_header(input))
 }
 
 // Of a file that is not opened nothing is read, and so no header.

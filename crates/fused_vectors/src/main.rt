@@ -10,7 +10,7 @@ mod text;
 use reading::read_full;
 use std::io;
 use std::io::Read;
-use text::read_words;
+use text::words;
 use wire::{bits_of, float_of};
 
 const LINE: usize = 70;
@@ -25,10 +25,6 @@ struct Tally {
     roots: u64,
     roots_differ: u64,
     unread: u64,
-}
-
-fn one_more(n: u64) -> u64 {
-    std::num::wrapping_add_u64(n, 1)
 }
 
 // The line that asks, which has what is wanted, and behind it what was got.
@@ -51,41 +47,43 @@ fn compared(
     if differ < SHOWN {
         show(rt, line, got)?;
     }
-    Ok(one_more(differ))
+    Ok(differ.wrapping_add(1))
 }
 
-fn fused_case(rt: &impl Print, line: &[u8; 70], w: &[u64; 4], t: Tally) -> io::Result<Tally> {
-    let mut after = t;
-    let got = fused::fused(float_of(w[0]), float_of(w[1]), float_of(w[2]));
-    after.fused = one_more(t.fused);
-    after.fused_differ = compared(rt, line, w[3], got, t.fused_differ)?;
-    Ok(after)
+fn fused_case(rt: &impl Print, line: &[u8; 70], w: [u64; 4], t: Tally) -> io::Result<Tally> {
+    let [x, y, z, wanted] = w;
+    let got = fused::fused(float_of(x), float_of(y), float_of(z));
+    Ok(Tally {
+        fused: t.fused.wrapping_add(1),
+        fused_differ: compared(rt, line, wanted, got, t.fused_differ)?,
+        ..t
+    })
 }
 
 fn root_case(rt: &impl Print, line: &[u8; 70], x: u64, wanted: u64, t: Tally) -> io::Result<Tally> {
-    let mut after = t;
-    after.roots = one_more(t.roots);
-    after.roots_differ = compared(rt, line, wanted, roots::root(float_of(x)), t.roots_differ)?;
-    Ok(after)
+    let got = roots::root(float_of(x));
+    Ok(Tally {
+        roots: t.roots.wrapping_add(1),
+        roots_differ: compared(rt, line, wanted, got, t.roots_differ)?,
+        ..t
+    })
 }
 
 fn unread(t: Tally) -> Tally {
-    let mut after = t;
-    after.unread = one_more(t.unread);
-    after
+    Tally {
+        unread: t.unread.wrapping_add(1),
+        ..t
+    }
 }
 
 fn asked(rt: &impl Print, line: &[u8; 70], t: Tally) -> io::Result<Tally> {
-    let mut w = [0u64; 4];
-    let kind = line[0];
-    if read_words(line, &mut w) {
-        match kind {
-            b'F' => fused_case(rt, line, &w, t),
-            b'R' => root_case(rt, line, w[2], w[3], root_case(rt, line, w[0], w[1], t)?),
-            _ => Ok(unread(t)),
-        }
-    } else {
-        Ok(unread(t))
+    let Some(w) = words(line) else {
+        return Ok(unread(t));
+    };
+    match line[0] {
+        b'F' => fused_case(rt, line, w, t),
+        b'R' => root_case(rt, line, w[2], w[3], root_case(rt, line, w[0], w[1], t)?),
+        _ => Ok(unread(t)),
     }
 }
 

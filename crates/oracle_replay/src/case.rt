@@ -5,100 +5,98 @@ use reading::read_full;
 use std::io;
 use std::io::Read;
 
-// The verdict on a case is 1 where anything differs, and its upper bit says that there was none: two verdicts are joined by `|`.
-pub(crate) const SAME: u64 = 0;
+// What is called.
+#[derive(Clone, Copy)]
+pub(crate) enum Kind {
+    Record,
+    GateMatrix,
+    Transpose,
+    Product,
+    StateProduct,
+}
 
-pub(crate) const DIFFERENT: u64 = 1;
-
-pub(crate) const END: u64 = 2;
-
-pub(crate) const UNREAD: u64 = 3;
-
-// What is called. given is the answer that is expected, or the target of a gate's matrix; length is the record's.
+// given is the answer that is expected, or the target of a gate's matrix; length is the record's.
 #[derive(Clone, Copy)]
 pub(crate) struct Head {
-    pub(crate) kind: u8,
+    pub(crate) kind: Kind,
     pub(crate) n: u8,
     pub(crate) given: u8,
     pub(crate) length: u8,
 }
 
-pub(crate) const RECORD: u8 = 1;
-
-pub(crate) const GATE_MATRIX: u8 = 2;
-
-pub(crate) const TRANSPOSE: u8 = 3;
-
-pub(crate) const PRODUCT: u8 = 4;
-
-const STATE_PRODUCT: u8 = 5;
+// What comes of the next case: none where the input ends, and unread where it cannot be read as one.
+#[derive(Clone, Copy)]
+pub(crate) enum Verdict {
+    Same,
+    Different,
+    Unread,
+    End,
+}
 
 // No sampled state has more qubits.
 const MOST_SAMPLED: u8 = 6;
 
 // No operand has more places.
-const MOST_PLACES: usize = 64;
+pub(crate) const MOST_PLACES: usize = 64;
+
+fn kind_of(byte: u8) -> Option<Kind> {
+    match byte {
+        1 => Some(Kind::Record),
+        2 => Some(Kind::GateMatrix),
+        3 => Some(Kind::Transpose),
+        4 => Some(Kind::Product),
+        5 => Some(Kind::StateProduct),
+        _ => None,
+    }
+}
+
+fn head_of(bytes: [u8; 4]) -> Option<Head> {
+    let kind = kind_of(bytes[0])?;
+    Some(Head {
+        kind,
+        n: bytes[1],
+        given: bytes[2],
+        length: bytes[3],
+    })
+}
 
 // How many places the first operand has, and how many the second and what is wanted.
-fn with_places<R: Read>(input: &mut R, head: Head, first: usize, places: usize) -> io::Result<u64> {
-    if MOST_PLACES < first {
-        return Ok(UNREAD);
+fn places(head: Head) -> Option<(usize, usize)> {
+    if MOST_SAMPLED < head.n {
+        return None;
     }
-    if MOST_PLACES < places {
-        return Ok(UNREAD);
-    }
-    let mut floats = [0.0; 384];
-    let mut reals = [0.0; MOST_PLACES];
-    let mut imags = [0.0; MOST_PLACES];
-    if read_floats(input, &mut floats, first, places)? {
-        run_case(
-            input,
-            head,
-            first,
-            &floats,
-            &mut reals[..places],
-            &mut imags[..places],
-        )
-    } else {
-        Ok(UNREAD)
+    let side: usize = 1 << head.n;
+    let all = side * side;
+    match head.kind {
+        Kind::Record => Some((0, side)),
+        Kind::GateMatrix => Some((4, all)),
+        Kind::Transpose => Some((0, all)),
+        Kind::Product => Some((all, all)),
+        Kind::StateProduct => Some((all, side)),
     }
 }
 
-fn sized_case<R: Read>(input: &mut R, head: Head) -> io::Result<u64> {
-    let n = head.n;
-    if MOST_SAMPLED < n {
-        return Ok(UNREAD);
+fn headed<R: Read>(input: &mut R, head: Head) -> io::Result<Verdict> {
+    let Some((first, count)) = places(head) else {
+        return Ok(Verdict::Unread);
+    };
+    if MOST_PLACES < first || MOST_PLACES < count {
+        return Ok(Verdict::Unread);
     }
-    let side: usize = 1 << n;
-    let all: usize = 1 << (n + n);
-    let kind = head.kind;
-    match kind {
-        RECORD => with_places(input, head, 0, side),
-        GATE_MATRIX => with_places(input, head, 4, all),
-        TRANSPOSE => with_places(input, head, 0, all),
-        PRODUCT => with_places(input, head, all, all),
-        STATE_PRODUCT => with_places(input, head, all, side),
-        _ => Ok(UNREAD),
-    }
+    let Some(floats) = read_floats(input, first, count)? else {
+        return Ok(Verdict::Unread);
+    };
+    run_case(input, head, &floats, first, count)
 }
 
-pub(crate) fn read_case<R: Read>(input: &mut R) -> io::Result<u64> {
+pub(crate) fn read_case<R: Read>(input: &mut R) -> io::Result<Verdict> {
     let mut bytes = [0u8; 4];
     let got = read_full(input, &mut bytes)?;
     if got == 0 {
-        return Ok(END);
+        return Ok(Verdict::End);
     }
-    if got < 4 {
-        Ok(UNREAD)
-    } else {
-        sized_case(
-            input,
-            Head {
-                kind: bytes[0],
-                n: bytes[1],
-                given: bytes[2],
-                length: bytes[3],
-            },
-        )
+    match head_of(bytes) {
+        Some(head) if got == 4 => headed(input, head),
+        _ => Ok(Verdict::Unread),
     }
 }

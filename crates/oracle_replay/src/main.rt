@@ -7,31 +7,26 @@ mod floats;
 mod record;
 mod run;
 
-use case::{DIFFERENT, END, read_case};
+use case::{Verdict, read_case};
 use std::io;
 
-fn print(rt: &impl Print, count: u64, what: &str) -> io::Result<()> {
-    println!(rt; "{count} {what}")
-}
-
 fn tell(rt: &impl Print, cases: u64, different: u64, unread: u64) -> io::Result<()> {
-    print(rt, cases, "cases")?;
-    print(rt, different, "different")?;
-    print(rt, unread, "unread")
+    println!(rt; "{cases} cases")?;
+    println!(rt; "{different} different")?;
+    println!(rt; "{unread} unread")
 }
 
 // Nothing says that an input ends: the loop ends at a number of cases that no sample has.
 fn main(rt: HostRuntime) -> io::Result<()> {
     let mut input = rt.stdin();
-    let mut cases: u64 = 0;
     let mut different: u64 = 0;
-    while cases < u64::MAX {
-        let verdict = read_case(&mut input)?;
-        if DIFFERENT < verdict {
-            return tell(&rt, cases, different, verdict % END);
+    for cases in 0..u64::MAX {
+        match read_case(&mut input)? {
+            Verdict::Same => {}
+            Verdict::Different => different = different.wrapping_add(1),
+            Verdict::Unread => return tell(&rt, cases, different, 1),
+            Verdict::End => return tell(&rt, cases, different, 0),
         }
-        different += verdict;
-        cases += 1;
     }
     Ok(())
 }

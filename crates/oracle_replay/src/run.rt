@@ -1,109 +1,111 @@
 // The call of a case, and whether it leaves what is wanted, bit for bit.
-ghost use Rattle.std.specs.Prelude.{◌<◌, ◌≤◌, length};
+ghost use Rattle.std.specs.Prelude.{◌≤◌, ◌<◌, length};
 
-use crate::case::{DIFFERENT, GATE_MATRIX, Head, PRODUCT, RECORD, SAME, TRANSPOSE};
-use crate::floats::{
-    FIRST_IMAGS, FIRST_REALS, IMAGS, REALS, WANTED_IMAGS, WANTED_REALS, copy, differs, part,
-};
+use crate::case::{Head, Kind, Verdict};
+use crate::floats::{Floats, Part, differ};
 use crate::record::deliver;
 use book::{Amplitude, Answer, Matrix};
 use std::io;
 use std::io::Read;
-
-fn verdict_of(answer: Answer) -> u64 {
-    match answer {
-        Answer::Taken => SAME,
-        Answer::Value(_) => DIFFERENT,
-        Answer::Refused(_) => DIFFERENT,
-    }
-}
+use unitaries::{apply_unitary, conj_t, from_single_qubit_gate, multiply};
 
 // An entry of a gate's own matrix.
-fn entry(floats: &[f64; 384], i: usize) -> Amplitude
+fn entry(part: &Part, i: usize) -> Amplitude
     requires { i < 4 }
 {
     Amplitude {
-        re: floats[i],
-        im: floats[i + FIRST_IMAGS],
+        re: part.reals[i],
+        im: part.imags[i],
     }
 }
 
-fn matrix_of(floats: &[f64; 384]) -> Matrix {
-    let a = entry(floats, 0);
-    let b = entry(floats, 1);
-    let c = entry(floats, 2);
-    let d = entry(floats, 3);
+fn matrix_of(part: &Part) -> Matrix {
     Matrix {
-        entries: [a, b, c, d],
+        entries: [
+            entry(part, 0),
+            entry(part, 1),
+            entry(part, 2),
+            entry(part, 3),
+        ],
     }
 }
 
-fn product(
-    head: Head,
-    first: usize,
-    floats: &[f64; 384],
-    reals: &mut [f64],
-    imags: &mut [f64],
-) -> Answer
+// A matrix call. A transposition changes the second operand, which stands in reals and imags; the others write over it.
+fn call(head: Head, floats: &Floats, first: usize, reals: &mut [f64], imags: &mut [f64]) -> Answer
     requires first_bound { first ≤ 64 }
     requires reals_len_bound { length reals.old ≤ 64 }
 {
-    let n = head.n as u32;
-    let places = reals.len();
-    let ar = part(floats, FIRST_REALS, first);
-    let ai = part(floats, FIRST_IMAGS, first);
-    let br = part(floats, REALS, places);
-    let bi = part(floats, IMAGS, places);
-    if head.kind == PRODUCT {
-        unitaries::multiply(ar, ai, br, bi, reals, imags, n)
-    } else {
-        unitaries::apply_unitary(ar, ai, br, bi, reals, imags, n)
+    let n = u32::from(head.n);
+    let count = reals.len();
+    let ar = &floats.first.reals[..first];
+    let ai = &floats.first.imags[..first];
+    let br = &floats.second.reals[..count];
+    let bi = &floats.second.imags[..count];
+    match head.kind {
+        Kind::GateMatrix => {
+            let matrix = matrix_of(&floats.first);
+            from_single_qubit_gate(reals, imags, n, u32::from(head.given), matrix)
+        }
+        Kind::Product => multiply(ar, ai, br, bi, reals, imags, n),
+        Kind::StateProduct => apply_unitary(ar, ai, br, bi, reals, imags, n),
+        Kind::Transpose | Kind::Record => conj_t(reals, imags, n),
     }
 }
 
-// Whether the call answers as it should.
-fn call<R: Read>(
+fn taken(answer: Answer) -> bool {
+    match answer {
+        Ok(None) => true,
+        _ => false,
+    }
+}
+
+// Whether the call answers as it should; none where a record cannot be read.
+fn answers<R: Read>(
     input: &mut R,
     head: Head,
+    floats: &Floats,
     first: usize,
-    floats: &[f64; 384],
     reals: &mut [f64],
     imags: &mut [f64],
-) -> io::Result<u64>
+) -> io::Result<Option<bool>>
     requires first_bound { first ≤ 64 }
     requires reals_len_bound { length reals.old ≤ 64 }
 {
-    let n = head.n as u32;
-    let kind = head.kind;
-    match kind {
-        RECORD => deliver(input, head, reals, imags),
-        GATE_MATRIX => Ok(verdict_of(unitaries::from_single_qubit_gate(
-            reals,
-            imags,
-            n,
-            head.given as u32,
-            matrix_of(floats),
-        ))),
-        TRANSPOSE => Ok(verdict_of(unitaries::conj_t(reals, imags, n))),
-        _ => Ok(verdict_of(product(head, first, floats, reals, imags))),
+    match head.kind {
+        Kind::Record => deliver(input, head, reals, imags),
+        _ => Ok(Some(taken(call(head, floats, first, reals, imags)))),
     }
 }
 
-// The second operand is put where the call changes it; a product writes over it.
 pub(crate) fn run_case<R: Read>(
     input: &mut R,
     head: Head,
+    floats: &Floats,
     first: usize,
-    floats: &[f64; 384],
-    reals: &mut [f64],
-    imags: &mut [f64],
-) -> io::Result<u64>
+    count: usize,
+) -> io::Result<Verdict>
     requires first_bound { first ≤ 64 }
-    requires reals_len_bound { length reals.old ≤ 64 }
-    requires imags_len_bound { length imags.old ≤ 64 }
+    requires count_bound { count ≤ 64 }
 {
-    copy(reals, floats, REALS);
-    copy(imags, floats, IMAGS);
-    let called = call(input, head, first, floats, reals, imags)?;
-    Ok(called | differs(reals, floats, WANTED_REALS) | differs(imags, floats, WANTED_IMAGS))
+    let mut reals = floats.second.reals;
+    let mut imags = floats.second.imags;
+    let right = answers(
+        input,
+        head,
+        floats,
+        first,
+        &mut reals[..count],
+        &mut imags[..count],
+    )?;
+    let Some(right) = right else {
+        return Ok(Verdict::Unread);
+    };
+    let wanted = &floats.wanted;
+    if !right
+        || differ(&reals[..count], &wanted.reals[..count])
+        || differ(&imags[..count], &wanted.imags[..count])
+    {
+        return Ok(Verdict::Different);
+    }
+    Ok(Verdict::Same)
 }

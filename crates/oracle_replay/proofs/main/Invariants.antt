@@ -1,9 +1,0 @@
--- `main` ends: cases are counted up, and no more differ.
-use Rattle.std.proofs.Common.{◌-◌, ◌≤◌}
-use Rattle.oracle_replay.proofs.main.Given as goal
-
-abbrev pub invariant-loop-cases : goal.invariant-loop-cases
-invariant-loop-cases l = l.different ≤ l.cases
-
-abbrev pub decreases-loop-cases : goal.decreases-loop-cases
-decreases-loop-cases l = 18446744073709551615 - l.cases
