@@ -1,5 +1,5 @@
 // F of two triples at once, side by side, and of four: so that the compiler makes one computation of two. A multiplier that many triples share is split once.
-// An inner room: its functions ask for upper parts that belong to the multipliers, and their callers are proved.
+// An inner room: its functions ask for upper parts that belong to the multipliers, and their callers are proved; a gate keeps its own beside that fact.
 #![tactic(auto)]
 
 ghost use Rattle.std.specs.Prelude.{◌≡◌};
@@ -27,22 +27,20 @@ pub fn upper(k: f64) -> f64
     upper_beside(k, 0.0)
 }
 
-// What k and s make of (x,y): two F. half is the upper part of k. The numbers come one by one: a struct would go through memory, to be read as a whole
-// before its parts have arrived.
+// What k and s make of (x,y): two F. half is the upper part of k.
+// Stays: the numbers come one by one, here and below, since a struct would go through memory, to be read as a whole before its parts have arrived.
 pub fn two(k: f64, s: f64, half: f64, x: f64, y: f64) -> Amplitude
     requires { Beside k s half }
     ensures { result ≡ times k s (amplitude x y) }
 {
-    if half != 0.0 {
-        if all_modest(x, x, y, y) {
-            let re = from_both_sides(x, k, half, -y * s);
-            let im = from_both_sides(y, k, half, x * s);
-            if all_meet(re, re, im, im) {
-                return Amplitude {
-                    re: re.left,
-                    im: im.left,
-                };
-            }
+    if half != 0.0 && all_modest(x, x, y, y) {
+        let re = from_both_sides(x, k, half, -y * s);
+        let im = from_both_sides(y, k, half, x * s);
+        if all_meet(re, re, im, im) {
+            return Amplitude {
+                re: re.left,
+                im: im.left,
+            };
         }
     }
     let re = fused(x, k, -y * s);
@@ -76,15 +74,13 @@ pub fn four(k: f64, s: f64, half: f64, ab: Amplitude, cd: Amplitude) -> Pair
     let b = ab.im;
     let c = cd.re;
     let d = cd.im;
-    if half != 0.0 {
-        if all_modest(a, c, b, d) {
-            let re0 = from_both_sides(a, k, half, -b * s);
-            let re1 = from_both_sides(c, k, half, -d * s);
-            let im0 = from_both_sides(b, k, half, a * s);
-            let im1 = from_both_sides(d, k, half, c * s);
-            if all_meet(re0, re1, im0, im1) {
-                return lefts(re0, im0, re1, im1);
-            }
+    if half != 0.0 && all_modest(a, c, b, d) {
+        let re0 = from_both_sides(a, k, half, -b * s);
+        let re1 = from_both_sides(c, k, half, -d * s);
+        let im0 = from_both_sides(b, k, half, a * s);
+        let im1 = from_both_sides(d, k, half, c * s);
+        if all_meet(re0, re1, im0, im1) {
+            return lefts(re0, im0, re1, im1);
         }
     }
     Pair {

@@ -6,7 +6,7 @@ ghost use Rattle.book.specs.Answers.{◌⇒◌};
 ghost use Rattle.book.specs.Measuring.{bad_forced, bad_chance, one_over_root};
 ghost use Rattle.seated.specs.Judging.{Judges};
 
-use book::{Answer, Forced, Refusal};
+use book::{Forced, Refusal};
 use operands::is_finite;
 pub use probabilities::chance;
 
@@ -14,35 +14,27 @@ pub use probabilities::chance;
 pub fn bad_forced(forced: Forced) -> bool
     ensures { result ≡ bad_forced forced }
 {
-    if 2 <= forced.outcome {
-        return true;
-    }
-    2 <= forced.reset
+    2 <= forced.outcome || 2 <= forced.reset
 }
 
 // NaN, infinite, zero or negative.
 pub fn bad_chance(p: f64) -> bool
     ensures { result ≡ bad_chance p }
 {
-    if is_finite(p) {
-        return !(0.0 < p);
-    }
-    true
+    !(is_finite(p) && 0.0 < p)
 }
 
 // Tests 6 and 7, of an outcome that has this probability.
-pub fn own(forced: Forced, p: f64) -> Answer
+pub fn own(forced: Forced, p: f64) -> Result<(), Refusal>
     ensures { Judges (bad_forced forced ⇒ 6 ∷ bad_chance p ⇒ 7 ∷ []) result }
 {
-    let neither = bad_forced(forced);
-    let unlikely = bad_chance(p);
-    if neither {
-        return Answer::Refused(Refusal::Number);
+    if bad_forced(forced) {
+        return Err(Refusal::Number);
     }
-    if unlikely {
-        return Answer::Refused(Refusal::Chance);
+    if bad_chance(p) {
+        return Err(Refusal::Chance);
     }
-    Answer::Taken
+    Ok(())
 }
 
 // 1/root(p)

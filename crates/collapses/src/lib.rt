@@ -2,7 +2,8 @@
 // An inner room: its one caller, measurement, is proved to have judged the seat that is asked.
 #![tactic(auto)]
 
-ghost use Rattle.std.specs.Prelude.{◌≡◌, ◌+◌, ◌<◌, ◌^◌};
+ghost use Rattle.std.specs.Prelude.{◌≡◌, ◌+◌, ◌<◌, ◌^◌, map};
+ghost use Rattle.book.specs.Gates.{◌⊗◌};
 ghost use Rattle.book.specs.Lent.{before, after, here};
 ghost use Rattle.book.specs.Measuring.{collapsed};
 ghost use Rattle.book.specs.State.{at, held, uncontrolled};
@@ -10,41 +11,27 @@ ghost use Rattle.probabilities.specs.Stretches.{Stretch};
 ghost use Rattle.collapses.specs.Halves.{scaled, cleared, half_of, Remade};
 ghost use Rattle.seated.specs.Judging.{Seated};
 
-// A stretch of the chosen half.
-fn scale_part(reals: &mut [f64], imags: &mut [f64], from: usize, to: usize, r: f64)
-    requires { Stretch from to (here reals imags) }
-    ensures { Remade (λ i. scaled r) from to (before reals imags) (after reals imags) }
+// Each number multiplied by r.
+fn scale(numbers: &mut [f64], r: f64)
+    ensures { numbers.new ≡ map (λ x. x ⊗ r) numbers.old }
 {
-    let mut i = from;
-    while i < to {
-        reals[i] = reals[i] * r;
-        imags[i] = imags[i] * r;
-        i += 1;
+    for x in numbers.iter_mut() {
+        *x = *x * r;
     }
 }
 
-// A stretch of the other half.
-fn clear_part(reals: &mut [f64], imags: &mut [f64], from: usize, to: usize)
-    requires { Stretch from to (here reals imags) }
-    ensures { Remade (λ i. cleared) from to (before reals imags) (after reals imags) }
-{
-    let mut i = from;
-    while i < to {
-        reals[i] = 0.0;
-        imags[i] = 0.0;
-        i += 1;
-    }
-}
-
+// A stretch of the chosen half, or of the other.
 fn collapse_half(reals: &mut [f64], imags: &mut [f64], from: usize, to: usize, chosen: bool, r: f64)
     requires { Stretch from to (here reals imags) }
     ensures { Remade (λ i. half_of chosen r) from to (before reals imags) (after reals imags) }
 {
     if chosen {
-        scale_part(reals, imags, from, to, r);
+        scale(&mut reals[from..to], r);
+        scale(&mut imags[from..to], r);
         return;
     }
-    clear_part(reals, imags, from, to);
+    reals[from..to].fill(0.0);
+    imags[from..to].fill(0.0);
 }
 
 pub fn collapse(reals: &mut [f64], imags: &mut [f64], n: u32, target: u32, outcome: u8, r: f64)
@@ -53,12 +40,9 @@ pub fn collapse(reals: &mut [f64], imags: &mut [f64], n: u32, target: u32, outco
 {
     let size: usize = 1 << n;
     let bit: usize = 1 << target;
-    let mut base = 0;
-    while base < size {
+    for base in (0..size).step_by(bit + bit) {
         let middle = base + bit;
-        let end = middle + bit;
         collapse_half(reals, imags, base, middle, outcome == 0, r);
-        collapse_half(reals, imags, middle, end, outcome == 1, r);
-        base = end;
+        collapse_half(reals, imags, middle, middle + bit, outcome == 1, r);
     }
 }

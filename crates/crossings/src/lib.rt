@@ -8,6 +8,7 @@ ghost use Rattle.book.specs.Matrices.{crossing, without_target};
 ghost use Rattle.matrices.specs.Filled.{Holds, Filled};
 
 use book::{Amplitude, Matrix};
+use matrices::write_at;
 
 // An index without its target bit: the two places of a pair share it.
 fn without_target(target: u32, i: usize) -> usize
@@ -40,13 +41,8 @@ pub fn fill_crossings(
     requires { (target < 6) × (1 ≤ side) × (side ≤ 64) × Holds (side * side) (here reals imags) }
     ensures { Filled 0 (side * side) (λ k. crossing matrix target (k / side) (k % side)) (before reals imags) (after reals imags) }
 {
-    let entries = matrix.entries;
-    let size = side * side;
-    let mut place = 0;
-    while place < size {
-        let z = crossing_at(Matrix { entries }, target, place / side, place % side);
-        reals[place] = z.re;
-        imags[place] = z.im;
-        place += 1;
+    for place in 0..side * side {
+        let z = crossing_at(matrix, target, place / side, place % side);
+        write_at(reals, imags, place, z);
     }
 }

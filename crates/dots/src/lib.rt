@@ -8,7 +8,8 @@ ghost use Rattle.matrices.specs.Filled.{Holds, Filled};
 ghost use Rattle.dots.specs.Dots.{state_dot};
 
 use book::Amplitude;
-use summands::{add_product, read_at, write_at};
+use matrices::{read_at, write_at};
+use summands::add_product;
 
 // A row of A times a state.
 fn row_dot(ar: &[f64], ai: &[f64], br: &[f64], bi: &[f64], from: usize, side: usize) -> Amplitude
@@ -16,12 +17,10 @@ fn row_dot(ar: &[f64], ai: &[f64], br: &[f64], bi: &[f64], from: usize, side: us
     ensures { result ≡ state_dot (shown ar ai) from (shown br bi) side }
 {
     let mut sum = Amplitude { re: 0.0, im: 0.0 };
-    let mut inner = 0;
-    while inner < side {
+    for inner in 0..side {
         let a = read_at(ar, ai, from + inner);
         let b = read_at(br, bi, inner);
         sum = add_product(sum, a, b);
-        inner += 1;
     }
     sum
 }
@@ -39,10 +38,8 @@ pub fn fill_state(
     requires { (side ≤ 64) × Holds (side * side) (shown_here ar ai) × Holds side (shown_here br bi) × Holds side (here reals imags) }
     ensures { Filled 0 side (λ row. state_dot (shown ar ai) (row * side) (shown br bi) side) (before reals imags) (after reals imags) }
 {
-    let mut row = 0;
-    while row < side {
+    for row in 0..side {
         let z = row_dot(ar, ai, br, bi, row * side, side);
         write_at(reals, imags, row, z);
-        row += 1;
     }
 }

@@ -1,153 +1,160 @@
-// The gates by number, and what each is fed: how many controls it takes, its own tests, and its rule where that needs F or leaves s0 as it is.
-// A number and its angle are passed as they are, and not as an enum: where a call names the number, the compiler keeps what that gate needs.
-// An inner room: the functions that put a rule ask for the multipliers' upper parts, and their callers are proved.
-#![tactic(auto)]
+// What a gate is fed, and what its call is judged by: its seat, with how many controls it takes, and then its own tests.
+#![tactic(auto, using(seated::proofs::Judged::none_judged))]
 
-ghost use Rattle.std.specs.Prelude.{◌≡◌};
-ghost use Rattle.book.specs.Gates.{angle_of, finite_tests};
-ghost use Rattle.book.specs.State.{pair};
+ghost use Rattle.std.specs.Prelude.{ℕ, List, [], ◌++◌};
+ghost use Rattle.book.specs.Answers.{Test};
+ghost use Rattle.book.specs.Calls.{any};
+ghost use Rattle.book.specs.Gates.{angle_of, angles_of, finite_tests};
+ghost use Rattle.book.specs.Kernels.{size_tests, seat_tests};
+ghost use Rattle.book.specs.Lent.{shown};
 ghost use Rattle.seated.specs.Judging.{Judges};
-ghost use Rattle.splits.specs.Splits.{RzSplit, USplit, PSplit};
-ghost use Rattle.fed.specs.Named.{most_of, own_of, fused_of, upper_most, upper_own, upper_of};
 
-use book::{ANY, Amplitude, Angle, Angles, Answer, Matrix, Pair};
-use fused_rules::{p_upper, p_uppers, rz_rule};
-use rules::z_upper;
-use splits::Uppers;
-use u_rules::u_rule;
+use book::{ANY, Angle, Controls, Refusal};
+use fused_rules::{P, Rz};
+use rules::{H, Rx, Ry, X, Y, Z};
+use u_rules::U;
 
-// The gates that change both places of a pair: those that need no F first.
-pub const X: u32 = 0;
+pub trait Fed: Copy {
+    ghost MOST: { ℕ };
 
-pub const Y: u32 = 1;
+    ghost own: { Self → List Test };
 
-pub const H: u32 = 2;
+    // How many controls it takes.
+    const MOST: u32;
 
-pub const RX: u32 = 3;
-
-pub const RY: u32 = 4;
-
-pub const RZ: u32 = 5;
-
-pub const U: u32 = 6;
-
-// The gates that leave s0 as it is.
-pub const Z: u32 = 0;
-
-pub const P: u32 = 1;
-
-// For a gate that takes no angle, or not U's numbers: it does not look at them.
-pub const NO_ANGLE: Angle = Angle {
-    cosine: 1.0,
-    sine: 0.0,
-};
-
-pub const NO_ANGLES: Angles = Angles {
-    ct: 1.0,
-    st: 0.0,
-    cl: 1.0,
-    sl: 0.0,
-    cpl: 1.0,
-    spl: 0.0,
-    cp: 1.0,
-    sp: 0.0,
-};
-
-// How many controls the gate takes.
-pub fn most(rule: u32) -> u32
-    ensures { result ≡ most_of rule }
-{
-    if rule == X {
-        return ANY;
-    }
-    if rule <= H {
-        return 1;
-    }
-    if rule <= RY {
-        return ANY;
-    }
-    1
+    // Its own tests, behind those of its seat.
+    fn own(self) -> Result<(), Refusal>
+        ensures { Judges (own self) result };
 }
 
-pub fn most_of_upper(upper: u32) -> u32
-    ensures { result ≡ upper_most upper }
+// Tests 1 to 5, and then the gate's own.
+pub fn judge<G: Fed>(
+    reals: &[f64],
+    imags: &[f64],
+    n: u32,
+    target: u32,
+    controls: Controls,
+    gate: G,
+) -> Result<(), Refusal>
+    ensures { Judges (size_tests n (shown reals imags) ++ (seat_tests G.MOST n target controls ++ G.own gate)) result }
 {
-    match upper {
-        0 => 0,
-        _ => ANY,
-    }
+    let seat = judging::seat(reals, imags, n, target, controls, G::MOST);
+    let own = gate.own();
+    seat.and(own)
 }
 
 // Test 6 of an angle.
-fn judge_angle(angle: Angle) -> Answer
+fn judge_angle(angle: Angle) -> Result<(), Refusal>
     ensures { Judges (finite_tests (angle_of angle)) result }
 {
     judging::numbers(&[angle.cosine, angle.sine])
 }
 
-// The gate's own tests, behind those of its seat.
-pub fn own(rule: u32, angle: Angle, angles: Angles) -> Answer
-    ensures { Judges (own_of rule angle angles) result }
-{
-    if rule <= H {
-        return Answer::Taken;
-    }
-    if rule <= RZ {
-        return judge_angle(angle);
-    }
-    let g = angles;
-    judging::numbers(&[g.ct, g.st, g.cl, g.sl, g.cpl, g.spl, g.cp, g.sp])
-}
+impl Fed for X {
+    ghost MOST = { any };
 
-pub fn own_of_upper(upper: u32, angle: Angle) -> Answer
-    ensures { Judges (upper_own upper angle) result }
-{
-    match upper {
-        0 => Answer::Taken,
-        _ => judge_angle(angle),
+    ghost own = { λ x. [] };
+
+    const MOST: u32 = ANY;
+
+    fn own(self) -> Result<(), Refusal> {
+        Ok(())
     }
 }
 
-// What the loop over keys is fed: RZ's number with its angle, or U's with its eight.
-#[derive(Clone, Copy)]
-pub struct Fed {
-    pub number: u32,
-    pub angle: Angle,
-    pub angles: Angles,
-}
+impl Fed for Y {
+    ghost MOST = { 1 };
 
-// The rule put to a pair; U's matrix was made before, and the upper parts h.
-pub fn put(number: u32, angle: Angle, matrix: Matrix, h: Uppers, p: Pair) -> Pair
-    requires { RzSplit angle h × USplit matrix h }
-    ensures { result ≡ fused_of number angle matrix p }
-{
-    if number == RZ {
-        return rz_rule(angle, h, p);
-    }
-    u_rule(matrix, h, p)
-}
+    ghost own = { λ y. [] };
 
-// What the gate makes of s1, by number: a call with a literal leaves one rule to compile. half is what P's angle was split to.
-pub fn put_upper(number: u32, angle: Angle, half: f64, cd: Amplitude) -> Amplitude
-    requires { PSplit angle half }
-    ensures { result ≡ upper_of number angle cd }
-{
-    match number {
-        0 => z_upper(cd),
-        _ => p_upper(angle, half, cd),
+    const MOST: u32 = 1; // Y's
+
+    fn own(self) -> Result<(), Refusal> {
+        Ok(())
     }
 }
 
-// ... at two places.
-pub fn put_uppers(number: u32, angle: Angle, half: f64, ab: Amplitude, cd: Amplitude) -> Pair
-    requires { PSplit angle half }
-    ensures { result ≡ pair (upper_of number angle ab) (upper_of number angle cd) }
-{
-    match number {
-        0 => Pair {
-            s0: z_upper(ab),
-            s1: z_upper(cd),
-        },
-        _ => p_uppers(angle, half, ab, cd),
+impl Fed for Z {
+    ghost MOST = { 0 };
+
+    ghost own = { λ z. [] };
+
+    const MOST: u32 = 0;
+
+    fn own(self) -> Result<(), Refusal> {
+        Ok(())
+    }
+}
+
+impl Fed for H {
+    ghost MOST = { 1 };
+
+    ghost own = { λ h. [] };
+
+    const MOST: u32 = 1; // H's
+
+    fn own(self) -> Result<(), Refusal> {
+        Ok(())
+    }
+}
+
+impl Fed for P {
+    ghost MOST = { any };
+
+    ghost own = { λ p. finite_tests (angle_of p.angle) };
+
+    const MOST: u32 = ANY;
+
+    fn own(self) -> Result<(), Refusal> {
+        judge_angle(self.angle)
+    }
+}
+
+impl Fed for Rx {
+    ghost MOST = { any };
+
+    ghost own = { λ rx. finite_tests (angle_of rx.0) };
+
+    const MOST: u32 = ANY;
+
+    fn own(self) -> Result<(), Refusal> {
+        judge_angle(self.0)
+    }
+}
+
+impl Fed for Ry {
+    ghost MOST = { any };
+
+    ghost own = { λ ry. finite_tests (angle_of ry.0) };
+
+    const MOST: u32 = ANY;
+
+    fn own(self) -> Result<(), Refusal> {
+        judge_angle(self.0)
+    }
+}
+
+impl Fed for Rz {
+    ghost MOST = { 1 };
+
+    ghost own = { λ rz. finite_tests (angle_of rz.angle) };
+
+    const MOST: u32 = 1; // RZ's
+
+    fn own(self) -> Result<(), Refusal> {
+        judge_angle(self.angle)
+    }
+}
+
+impl Fed for U {
+    ghost MOST = { 1 };
+
+    ghost own = { λ u. finite_tests (angles_of u.angles) };
+
+    const MOST: u32 = 1; // U's
+
+    fn own(self) -> Result<(), Refusal> {
+        let g = self.angles;
+        judging::numbers(&[g.ct, g.st, g.cl, g.sl, g.cpl, g.spl, g.cp, g.sp])
     }
 }

@@ -7,9 +7,11 @@ ghost use Rattle.book.specs.Lent.{before, after};
 ghost use Rattle.book.specs.declared.Gate.TheVariants as Gate;
 
 use book::{Angle, Angles, Answer, Controls, Noise};
-use fed::{H, NO_ANGLE, NO_ANGLES, P, RX, RY, RZ, U, X, Y, Z};
+use fused_rules::{P, Rz};
+use rules::{H, Rx, Ry, X, Y, Z};
 use swaps::{flip_bit, swap_bits};
 use sweeps::on_pairs;
+use u_rules::U;
 use uppers::on_uppers;
 
 // s0 and s1 exchanged, with any number of controls.
@@ -22,7 +24,7 @@ pub fn x_apply(
 ) -> Answer
     ensures { Does (act n (Gate.X target controls) (before reals imags)) result (after reals imags) }
 {
-    on_pairs(reals, imags, n, target, controls, X, NO_ANGLE, NO_ANGLES)
+    on_pairs(reals, imags, n, target, controls, X)
 }
 
 // Up to one control.
@@ -35,7 +37,7 @@ pub fn y_apply(
 ) -> Answer
     ensures { Does (act n (Gate.Y target controls) (before reals imags)) result (after reals imags) }
 {
-    on_pairs(reals, imags, n, target, controls, Y, NO_ANGLE, NO_ANGLES)
+    on_pairs(reals, imags, n, target, controls, Y)
 }
 
 // No controls.
@@ -48,7 +50,7 @@ pub fn z_apply(
 ) -> Answer
     ensures { Does (act n (Gate.Z target controls) (before reals imags)) result (after reals imags) }
 {
-    on_uppers(reals, imags, n, target, controls, Z, NO_ANGLE)
+    on_uppers(reals, imags, n, target, controls, Z)
 }
 
 // Up to one control.
@@ -61,7 +63,7 @@ pub fn h_apply(
 ) -> Answer
     ensures { Does (act n (Gate.H target controls) (before reals imags)) result (after reals imags) }
 {
-    on_pairs(reals, imags, n, target, controls, H, NO_ANGLE, NO_ANGLES)
+    on_pairs(reals, imags, n, target, controls, H)
 }
 
 // Any number of controls.
@@ -75,7 +77,7 @@ pub fn p_apply(
 ) -> Answer
     ensures { Does (act n (Gate.P target controls angle) (before reals imags)) result (after reals imags) }
 {
-    on_uppers(reals, imags, n, target, controls, P, angle)
+    on_uppers(reals, imags, n, target, controls, P::of(angle))
 }
 
 // The angle is the half angle, here and below. Any number of controls.
@@ -89,7 +91,7 @@ pub fn rx_apply(
 ) -> Answer
     ensures { Does (act n (Gate.Rx target controls angle) (before reals imags)) result (after reals imags) }
 {
-    on_pairs(reals, imags, n, target, controls, RX, angle, NO_ANGLES)
+    on_pairs(reals, imags, n, target, controls, Rx(angle))
 }
 
 // Any number of controls.
@@ -103,7 +105,7 @@ pub fn ry_apply(
 ) -> Answer
     ensures { Does (act n (Gate.Ry target controls angle) (before reals imags)) result (after reals imags) }
 {
-    on_pairs(reals, imags, n, target, controls, RY, angle, NO_ANGLES)
+    on_pairs(reals, imags, n, target, controls, Ry(angle))
 }
 
 // Up to one control.
@@ -117,7 +119,7 @@ pub fn rz_apply(
 ) -> Answer
     ensures { Does (act n (Gate.Rz target controls angle) (before reals imags)) result (after reals imags) }
 {
-    on_pairs(reals, imags, n, target, controls, RZ, angle, NO_ANGLES)
+    on_pairs(reals, imags, n, target, controls, Rz::of(angle))
 }
 
 // The eight numbers make the matrix once. Up to one control.
@@ -131,7 +133,7 @@ pub fn u_apply(
 ) -> Answer
     ensures { Does (act n (Gate.U target controls angles) (before reals imags)) result (after reals imags) }
 {
-    on_pairs(reals, imags, n, target, controls, U, NO_ANGLE, angles)
+    on_pairs(reals, imags, n, target, controls, U::of(angles))
 }
 
 // Amplitudes exchanged whose indices differ by exchanging the bits t0 and t1; a qubit with itself changes nothing.

@@ -6,10 +6,9 @@ use Rattle.std.specs.Prelude.{Option, Some, None}
 use mathlib.Core.Path.{◌≡◌, refl, sym, ap, ap₂, ◌∙◌}
 use Rattle.book.proofs.Agree.{says_agree}
 use Rattle.book.proofs.Calls.{refused_keeps}
-use Rattle.book.specs.Answers.{Said, says, Test, first, Buffers, Call, Outcome, accepted, unless, accepts, Does}
+use Rattle.book.specs.Answers.{Answer, Said, says, Test, first, Buffers, Call, Outcome, accepted, unless, accepts, Does}
 use Rattle.book.specs.Calls.{call_of, act}
 use Rattle.book.specs.Kernels.{bad_length, size_tests}
-use Rattle.book.specs.declared.Answer.{Answer}
 use Rattle.book.specs.declared.Gate.{Gate}
 use Rattle.into.specs.Into.{into_tests, into, EnginesAgree}
 

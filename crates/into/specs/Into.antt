@@ -1,9 +1,8 @@
 -- A gate from input buffers into separate output buffers: the kernel's own call, and that the two engines agree. Definitions only. Assumes nothing.
 use Rattle.std.specs.Prelude.{ℕ, ◌^◌, false, cond, ◌||◌, List, [], ◌∷◌, ◌≡◌}
-use Rattle.book.specs.Answers.{says, Test, ◌⇒◌, Buffers, Outcome, outcome_of, accepts, Does}
+use Rattle.book.specs.Answers.{Answer, says, Test, ◌⇒◌, Buffers, Outcome, outcome_of, accepts, Does}
 use Rattle.book.specs.Calls.{call_of, act}
 use Rattle.book.specs.Kernels.{bad_size, bad_length, most_qubits}
-use Rattle.book.specs.declared.Answer.{Answer}
 use Rattle.book.specs.declared.Gate.{Gate}
 
 -- 1, and 2, which looks at the outputs' lengths with the inputs'

@@ -1,58 +1,70 @@
 -- The tests that every matrix call begins with, 1 and then 2: what each refuses, and what is known once both are passed. Assumes nothing.
-use Prim.Native.Nat.{ℕ, ◌≤◌, ◌<◌}
-use mathlib.Core.Bool.{Bool, true, false}
-use mathlib.Core.List.{List, ◌∷◌}
-use mathlib.Core.Path.{◌≡◌, sym, ◌∙◌}
+use Prim.Native.Nat.{ℕ, ◌≤◌}
+use mathlib.Core.Bool.{Bool, true, false, cond, ◌||◌}
+use mathlib.Core.List.{List, [], ◌∷◌}
+use mathlib.Core.Path.{◌≡◌, refl, sym, ap, ◌∙◌}
 use native.Mathlib.Nat.{le_of_eq}
-use native.Mathlib.Omega.{arith}
 use borrow.Author.Tests.{ltb-false}
 use lib.Dec.{ltb}
-use Rattle.book.proofs.Calls.{refuses, takes}
-use Rattle.book.proofs.Refusals.{neither, right_lengths}
-use Rattle.book.specs.Answers.{number_of, taken, Test, ◌⇒◌, first, Buffers, Call, accepted, unless, Does}
+use lib.Pow.{pow_mono, pow_pos}
+use Rattle.std.specs.Prelude.{Ok, Err}
+use Rattle.book.proofs.Refusals.{clear, neither, right_lengths}
+use Rattle.book.specs.Answers.{Test, ◌⇒◌, first, Buffers}
 use Rattle.book.specs.Kernels.{bad_size, bad_length}
 use Rattle.book.specs.Matrices.{most_matrix}
-use Rattle.book.specs.declared.Answer.TheVariants.{Taken, Refused}
 use Rattle.book.specs.declared.Refusal.{Refusal}
-use Rattle.book.specs.declared.Refusal.TheVariants.{Size, Length}
 use Rattle.matrices.specs.Filled.{Holds}
+use Rattle.matrices.specs.Sided.{Sided}
+use Rattle.seated.proofs.Judged.{passed, judged_behind, judged_stays}
+use Rattle.seated.specs.Judging.{Ruling, ruled, Judges}
 
 -- test 1 passed: n is at most 6, so 2^n is a side
-module _ (n : ℕ) (ok : bad_size most_matrix n ≡ false) where
-  pub most_is : n ≤ 6
-  most_is = ltb-false most_matrix n (neither (ltb n 1) (ltb most_matrix n) ok).1
+pub most_is : (n : ℕ) → bad_size most_matrix n ≡ false → n ≤ 6
+most_is n ok = ltb-false most_matrix n (neither (ltb n 1) (ltb most_matrix n) ok).1
 
-  pub shift_fits : n < 64
-  shift_fits = omega (arith, most_is)
+module _ (n : ℕ) {side : ℕ} (s : Sided n (Ok side)) where
+  pub side_le : side ≤ 64
+  side_le = rw s.1 (pow_mono (most_is n s.0))
+
+  pub side_some : 1 ≤ side
+  side_some = rw s.1 (pow_pos n)
+
+-- ---- 1, and then the rest
+
+module _ (n : ℕ) (rest : List Test) where
+  pub size_refused : {r : Refusal} → Sided n (Err r) → Judges (bad_size most_matrix n ⇒ 1 ∷ rest) (Err r)
+  unfolding first
+  size_refused s = rw s.1 (record { is = rw s.0 })
+
+  pub size_passed : {side : ℕ} {r : Ruling} → Sided n (Ok side) → Judges rest r → Judges (bad_size most_matrix n ⇒ 1 ∷ rest) r
+  unfolding first
+  size_passed s j = record { is = j.is ∙ (rw s.0) }
+
+-- ---- 2
+
+pub not_long : {long : Bool} {u : Unit} → Judges (long ⇒ 2 ∷ []) (Ok u) → long ≡ false
+not_long {long} j = (clear (long ⇒ 2 ∷ []) tt (passed j)).0
+
+pub long_flag : {long : Bool} (x : Bool) {r : Ruling} → long ≡ x → ruled r ≡ cond long 2 0 → Judges (x ⇒ 2 ∷ []) r
+unfolding first
+long_flag x e is = record { is = is ∙ ap (λ (y : Bool). cond y 2 0) e }
+
+-- one pair of buffers, and then another
+module _ (x y : Bool) where
+  as_one : first (x ⇒ 2 ∷ y ⇒ 2 ∷ []) ≡ first ((x || y) ⇒ 2 ∷ [])
+  unfolding first
+  as_one = by x
+    where
+      by : (x : Bool) → first (x ⇒ 2 ∷ y ⇒ 2 ∷ []) ≡ first ((x || y) ⇒ 2 ∷ [])
+      by true = refl
+      by false = refl
+
+  pub first_long : {r : Refusal} → Judges (x ⇒ 2 ∷ []) (Err r) → Judges ((x || y) ⇒ 2 ∷ []) (Err r)
+  first_long j = record { is = (judged_stays (x ⇒ 2 ∷ []) (y ⇒ 2 ∷ []) tt j).is ∙ as_one }
+
+  pub then_next : {u : Unit} {r : Ruling} → Judges (x ⇒ 2 ∷ []) (Ok u) → Judges (y ⇒ 2 ∷ []) r → Judges ((x || y) ⇒ 2 ∷ []) r
+  then_next j k = record { is = (judged_behind (x ⇒ 2 ∷ []) (y ⇒ 2 ∷ []) tt j k).is ∙ as_one }
 
 -- buffers of a length hold as many places
 pub held_places : (size : ℕ) (b : Buffers) → bad_length size b ≡ false → Holds size b
 held_places size b e = let (r, i) = right_lengths size b e in record { reals = le_of_eq (sym r); imags = le_of_eq (sym i) }
-
--- ---- the tests of a matrix call in their order: 1, then 2, then the rest
-
-abbrev pub tests : ℕ → Bool → List Test → List Test
-tests n long rest = bad_size most_matrix n ⇒ 1 ∷ long ⇒ 2 ∷ rest
-
-module _ (n : ℕ) (long : Bool) (rest : List Test) (b : Buffers) (work : Call) where
-  pub wrong_size : bad_size most_matrix n ≡ true → Does (unless (first (tests n long rest)) b work) (Refused Size) b
-  unfolding first
-  wrong_size e = let k : first (tests n long rest) ≡ 1 = rw e in refuses Size b work k
-
-  module _ (ok : bad_size most_matrix n ≡ false) where
-    pub wrong_length : long ≡ true → Does (unless (first (tests n long rest)) b work) (Refused Length) b
-    unfolding first
-    wrong_length e = let k : first (tests n long rest) ≡ 2 = rw (ok, e) in refuses Length b work k
-
-    module _ (e : long ≡ false) where
-      -- 1 and 2 passed: the rest decides
-      passed : first (tests n long rest) ≡ first rest
-      unfolding first
-      passed = rw (ok, e)
-
-      pub wrong_later : (r : Refusal) → first rest ≡ number_of r → Does (unless (first (tests n long rest)) b work) (Refused r) b
-      wrong_later r f = refuses r b work (passed ∙ f)
-
-      pub right : {after : Buffers} → first rest ≡ 0 → taken ≡ accepted work.answer → after ≡ work.left
-          → Does (unless (first (tests n long rest)) b work) Taken after
-      right f p q = takes b work (passed ∙ f) p q

@@ -1,23 +1,9 @@
--- The side of a matrix, 2^n at most 64: the code's shift, the square of it, and the start of a row, all within a usize. Assumes nothing.
-use Prim.Native.Nat.{ℕ, ◌+◌, ◌*◌, ◌%◌, ◌^◌, ◌≤◌, ◌<◌}
+-- The side of a matrix, 2^n at most 64: the square of it, and the start of a row, all within a usize. Assumes nothing.
+use Prim.Native.Nat.{ℕ, ◌+◌, ◌*◌, ◌^◌, ◌≤◌, ◌<◌}
 use mathlib.Core.Path.{◌≡◌, sym}
-use native.Mathlib.Nat.{one-mul, mod-eq_of_lt, suc-mul, mul-le-mul}
+use native.Mathlib.Nat.{suc-mul, mul-le-mul}
 use native.Mathlib.Numerals.{add-one}
 use native.Mathlib.Omega.{arith}
-use lib.Pow.{pow-lt, pow_mono, pow_pos}
-
--- the code's `1 << n`
-abbrev pub shifted : ℕ → ℕ
-shifted n = 1 * 2 ^ n % 2 ^ 64
-
-pub side_is : (n : ℕ) → n ≤ 6 → shifted n ≡ 2 ^ n
-side_is n l = rw (one-mul (2 ^ n)) (mod-eq_of_lt (pow-lt (let h : n < 64 = omega arith in h)))
-
-pub side_le : (n : ℕ) → n ≤ 6 → shifted n ≤ 64
-side_le n l = rw (side_is n l) (pow_mono l)
-
-pub side_some : (n : ℕ) → n ≤ 6 → 1 ≤ shifted n
-side_some n l = rw (side_is n l) (pow_pos n)
 
 pub square_le : (side : ℕ) → side ≤ 64 → side * side ≤ 4096
 square_le side l = mul-le-mul {n₁ = side} {m₁ = side} l l

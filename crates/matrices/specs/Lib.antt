@@ -1,2 +1,3 @@
--- What the loops of matrix calls ask and leave.
+-- What test 1 finds, and what the loops of matrix calls ask and leave.
+pub mod Sided
 pub mod Filled

@@ -11,27 +11,16 @@ ghost use Rattle.measurement.specs.Resets.{Reset};
 use book::{Answer, Controls, Forced, Gate};
 use chances::{chance, one_over_root};
 use collapses::collapse;
-use fed::{NO_ANGLE, NO_ANGLES, X};
-use sweeps::on_pairs;
+use rules::X;
+use sweeps::put_chosen;
 
 // If the outcome is 1 and reset is 1, X follows.
 fn set_back(reals: &mut [f64], imags: &mut [f64], n: u32, target: u32, forced: Forced)
     requires { Seated n target uncontrolled (here reals imags) }
     ensures { Reset n target forced (before reals imags) (after reals imags) }
 {
-    if forced.outcome == 1 {
-        if forced.reset == 1 {
-            on_pairs(
-                reals,
-                imags,
-                n,
-                target,
-                Controls::of(0),
-                X,
-                NO_ANGLE,
-                NO_ANGLES,
-            );
-        }
+    if forced.outcome == 1 && forced.reset == 1 {
+        put_chosen(reals, imags, n, target, Controls::of(0), X);
     }
 }
 
@@ -45,17 +34,10 @@ pub fn measure_qubit(
 ) -> Answer
     ensures { Does (act n (Gate.Measure target forced) (before reals imags)) result (after reals imags) }
 {
-    let seat = judging::free_seat(reals, imags, n, target);
-    if let Answer::Taken = seat {
-        let outcome = forced.outcome;
-        let p = chance(reals, imags, n, target, outcome);
-        let own = chances::own(forced, p);
-        if let Answer::Taken = own {
-            collapse(reals, imags, n, target, outcome, one_over_root(p));
-            set_back(reals, imags, n, target, forced);
-            return Answer::Value(outcome);
-        }
-        return own;
-    }
-    seat
+    judging::free_seat(reals, imags, n, target)?;
+    let p = chance(reals, imags, n, target, forced.outcome);
+    chances::own(forced, p)?;
+    collapse(reals, imags, n, target, forced.outcome, one_over_root(p));
+    set_back(reals, imags, n, target, forced);
+    Ok(Some(forced.outcome))
 }

@@ -4,7 +4,7 @@ use mathlib.Core.Logic.{◌⊎◌, inl, inr}
 use Prim.Native.Nat.{ℕ, suc, ◌+◌, ◌*◌, ◌/◌, ◌%◌, ◌^◌, ◌<◌}
 use native.Mathlib.Nat.{mul-one, zero-mul, mul-pos, eq-zero-or-pos, zero-lt-suc}
 use native.Mathlib.Omega.{arith}
-use mathlib.Core.Bool.{Bool, true, false, not, cond, ◌&&◌, ◌||◌, beq, true≢false}
+use mathlib.Core.Bool.{Bool, true, false, not, cond, ◌&&◌, ◌||◌, beq}
 use borrow.Author.Tests.{eq-eqb, ne_eqb, eqb-true, eqb-false}
 use lib.IntN.{pos}
 use lib.Dec.{T, leb, eqb}
@@ -13,7 +13,6 @@ use lib.Ieee.{of_fields, of_bits, to_bits}
 use lib.Ieee.Fits.{up_pos}
 use lib.Ieee.Bits.{of_bits-to_bits}
 use lib.Ieee.Exact.{HasValue, odd_sign}
-use lib.Ieee.Scale.{finite}
 use Rattle.operands.specs.Operands.{is_zero, ordinary}
 
 -- ---- the tests
@@ -45,16 +44,6 @@ zero_test_is (fin s m e) = zero_test s (m * up e * 1) (0 * down e) (zero-mul (do
     go : (m ≡ 0) ⊎ (0 < m) → eqb (m * up e * 1) 0 ≡ eqb m 0
     go (inl h) = eq-eqb (m * up e * 1) 0 (mul-one (m * up e) ∙ ap (λ (y : ℕ). y * up e) h ∙ zero-mul (up e)) ∙ sym (eq-eqb m 0 h)
     go (inr h) = ne_eqb (m * up e * 1) 0 (no (m * up e * 1) (mul-pos (mul-pos h (up_pos e)) (zero-lt-suc 0))) ∙ sym (ne_eqb m 0 (no m h))
-
-pub ordinary_yes : (x : Float) → finite x ≡ true → not (is_zero x) ≡ ordinary x
-ordinary_yes nan h = sym h
-ordinary_yes (inf s) h = sym h
-ordinary_yes (fin s m e) h = refl
-
-pub ordinary_no : (x : Float) → finite x ≡ false → false ≡ ordinary x
-ordinary_no nan h = refl
-ordinary_no (inf s) h = refl
-ordinary_no (fin s m e) h = absurd (true≢false h)
 
 pub ordinary_number : (x : Float) → T (ordinary x) → T (not (is_nan x))
 unfolding is_nan
@@ -128,10 +117,6 @@ some m t = go (eq-zero-or-pos m)
     go : (m ≡ 0) ⊎ (0 < m) → 0 < m
     go (inl e) = absurd (subst (λ (b : Bool). T (not b)) (eq-eqb m 0 e) t)
     go (inr l) = l
-
-pub never : (b : Bool) → T (not b) → T b → ⊥
-never true n h = n
-never false n h = h
 
 -- ---- what a call answered, by the test that follows it
 pub yes : {r b : Bool} → r ≡ b → r ≡ true → T b

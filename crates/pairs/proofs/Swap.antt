@@ -2,70 +2,61 @@
 use Prim.Native.Nat.{ℕ, ◌+◌, ◌^◌, ◌≤◌, ◌<◌}
 use mathlib.Core.Bool.{Bool, true, false, ◌||◌}
 use mathlib.Core.List.{[], ◌∷◌, ◌++◌}
-use Rattle.std.specs.Prelude.{None}
-use mathlib.Core.Path.{◌≡◌, refl, ap, ap₂, subst}
+use mathlib.Core.Path.{◌≡◌, refl, ap₂, subst}
 use native.Mathlib.Omega.{arith}
 use lib.Dec.{leb}
-use Rattle.book.specs.Answers.{says, ◌⇒◌, Buffers, Outcome, call, outcome_of, Does}
+use Rattle.std.specs.Prelude.{None, Ok, Err}
+use Rattle.book.specs.Answers.{Answer, ◌⇒◌, Buffers, Outcome, call, outcome_of, Does}
 use Rattle.book.specs.Gates.{x_rule}
 use Rattle.book.specs.Kernels.{size_tests, swapped, swap_call}
 use Rattle.book.specs.State.{uncontrolled}
-use Rattle.book.specs.declared.Answer.{Answer}
-use Rattle.book.specs.declared.Answer.TheVariants.{Taken}
+use Rattle.book.specs.declared.Refusal.{Refusal}
 use Rattle.seated.proofs.Judged.{passed, works, keeps}
 use Rattle.seated.proofs.Seats.{free_seated, higher}
 use Rattle.seated.proofs.Shifts.{shl, shl_is, pow_le}
-use Rattle.seated.specs.Judging.{Judges, Seated, free_tests}
+use Rattle.seated.specs.Judging.{Judges, Ruling, Seated, free_tests}
 use Rattle.pairs.specs.Pairs.{Keyed, Swept}
 use Rattle.pairs.proofs.Exchanged.{swap_keyed, swept_swap, swapped_itself, swapped_sym}
 
 abbrev pub swap_of : ℕ → ℕ → ℕ → Buffers → Outcome
 swap_of n t u b = outcome_of (size_tests n b) b (swap_call n t u b)
 
--- SWAP that was judged by u, where t is not the higher
-pub record Judged (n t u : ℕ) (b : Buffers) (r : Answer) : Type 0 where
-  pub order : t ≤ u
-  pub is : Judges (size_tests n b ++ free_tests n u) r
+-- SWAP is judged by u, where t is not the higher
+module _ (n t u : ℕ) (b : Buffers) (order : t ≤ u) where
+  judged : {r : Ruling} → Judges (size_tests n b ++ free_tests n u) r → Judges (size_tests n b ++ (swap_call n t u b).tests) r
+  judged {r} = subst (λ (x : Bool). Judges (size_tests n b ++ (x ⇒ 3 ∷ [])) r) (higher n t u order)
 
-module _ {n t u : ℕ} {b : Buffers} {r : Answer} (j : Judged n t u b r) where
-  judged : Judges (size_tests n b ++ (swap_call n t u b).tests) r
-  judged = subst (λ (x : Bool). Judges (size_tests n b ++ (x ⇒ 3 ∷ [])) r) (higher n t u j.order) j.is
+  pub swap_kept : {r : Refusal} → Judges (size_tests n b ++ free_tests n u) (Err r) → Does (swap_of n t u b) (Err r) b
+  swap_kept j = keeps (size_tests n b) b (swap_call n t u b) (judged j)
 
-  pub swap_kept : (r ≡ Taken → ⊥) → Does (swap_of n t u b) r b
-  swap_kept h = keeps (size_tests n b) b (swap_call n t u b) judged h
-
-  module _ (e : r ≡ Taken) where
+  module _ {v : Unit} (j : Judges (size_tests n b ++ free_tests n u) (Ok v)) where
     pub swap_seated : Seated n u uncontrolled b
-    swap_seated = free_seated n u b [] (passed j.is e)
+    swap_seated = free_seated n u b [] (passed j)
 
-    done : {b' : Buffers} → b' ≡ swapped n t u b → Does (swap_of n t u b) r b'
-    done h = works (size_tests n b) b (swap_call n t u b) judged e (ap says e) h
+    pub swap_done : {b' : Buffers} → b' ≡ swapped n t u b → Does (swap_of n t u b) (Ok None) b'
+    swap_done = works (size_tests n b) b (swap_call n t u b) (judged j) refl
 
-    pub swap_itself : t ≡ u → Does (swap_of n t u b) r b
-    swap_itself h = done (swapped_itself n t u b swap_seated.reals swap_seated.imags h)
+    pub swap_itself : t ≡ u → Does (swap_of n t u b) (Ok None) b
+    swap_itself h = swap_done (swapped_itself n t u b swap_seated.reals swap_seated.imags h)
 
-    low_is : shl t ≡ 2 ^ t
-    low_is = shl_is t (omega (arith, j.order, swap_seated.qubit, swap_seated.fits))
+-- ---- what a sweep asks and leaves
 
-    high_is : shl u ≡ 2 ^ u
-    high_is = shl_is u (omega (arith, swap_seated.qubit, swap_seated.fits))
+module _ {n u : ℕ} {b : Buffers} (ok : Seated n u uncontrolled b) (t : ℕ) (less : t < u) where
+  low_is : shl t ≡ 2 ^ t
+  low_is = shl_is t (omega (arith, ok.qubit, ok.fits))
 
-    pub swap_small : shl t + shl u < 2 ^ 26
-    swap_small =
-        let ok = swap_seated in
-        omega (arith, low_is, high_is, pow_le t 24 (omega (arith, j.order, ok.qubit, ok.fits)), pow_le u 24 (omega (arith, ok.qubit, ok.fits)))
+  high_is : shl u ≡ 2 ^ u
+  high_is = shl_is u (omega (arith, ok.qubit, ok.fits))
 
-    module _ (ne : t ≡ u → ⊥) where
-      less : t < u
-      less = omega (arith, j.order)
+  pub swap_small : shl t + shl u < 2 ^ 26
+  swap_small =
+      omega (arith, low_is, high_is, pow_le t 24 (omega (arith, ok.qubit, ok.fits)), pow_le u 24 (omega (arith, ok.qubit, ok.fits)))
 
-      pub swap_asks : Keyed n (shl t + shl u) (shl u) (shl t) b
-      swap_asks = let ok = swap_seated in rw (low_is, high_is) (swap_keyed t u less ok.some ok.fits ok.reals ok.imags ok.qubit)
+  pub swap_asks : Keyed n (shl t + shl u) (shl u) (shl t) b
+  swap_asks = rw (low_is, high_is) (swap_keyed t u less ok.some ok.fits ok.reals ok.imags ok.qubit)
 
-      pub swap_swept : {b' : Buffers} → Swept x_rule n (shl t + shl u) (shl u) (shl t) b b' → Does (swap_of n t u b) r b'
-      swap_swept w =
-          let ok = swap_seated in
-          done (swept_swap t u less ok.some ok.fits ok.reals ok.imags ok.qubit (rw (low_is, high_is) at w))
+  pub swap_swept : {b' : Buffers} → Swept x_rule n (shl t + shl u) (shl u) (shl t) b b' → b' ≡ swapped n t u b
+  swap_swept w = swept_swap t u less ok.some ok.fits ok.reals ok.imags ok.qubit (rw (low_is, high_is) at w)
 
 -- ---- the order of the qubits
 

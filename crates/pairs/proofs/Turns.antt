@@ -205,8 +205,9 @@ module _ {n wide run stride back0 back1 : ℕ} {b₀ : Buffers} (ok : Runs n wid
         subst (Has (wide + (stride - 1))) e (run_on t.cut t.turn j t.on (omega (arith, t.cut.run_is, run_last t.cut j s, stride_pos t.cut))
         s.0)
 
-    pub numbers : u < 2 ^ n → Numbers n run stride back0 back1 u b
+    pub numbers : u < length b₀.reals → Numbers n run stride back0 back1 u b
     numbers l =
+        let below : u < 2 ^ n = omega (arith, ok.keyed.reals) in
         let le : stride * 2 ≤ run = omega (arith, stride_le t.cut, t.cut.run_is) in
         let first : u + (stride - 1) + 0 ≡ u + (stride - 1) = omega arith in
         let k : Has (wide + (stride - 1)) (u + (stride - 1)) = subst (Has (wide + (stride - 1))) first
@@ -216,13 +217,13 @@ module _ {n wide run stride back0 back1 : ℕ} {b₀ : Buffers} (ok : Runs n wid
           low = le;
           reach = omega (arith, key_ge (wide + (stride - 1)) (u + (stride - 1)) k, ok.keyed.reach);
           order = ok.keyed.order;
-          room = run_room t.cut t.turn u t.here l;
+          room = run_room t.cut t.turn u t.here below;
           small = pow_le n 24 ok.keyed.fits;
           reals = t.same.reals ∙ ok.keyed.reals;
           imags = t.same.imags ∙ ok.keyed.imags;
         }
 
-    module _ (l : u < 2 ^ n) where
+    module _ (l : u < length b₀.reals) where
       abbrev a : ℕ
       a = u + (stride - 1) - back0
 
@@ -340,14 +341,14 @@ module _ {n wide run stride back0 back1 : ℕ} {b₀ : Buffers} (ok : Runs n wid
                 },
               )
 
-    pub turns_end : 2 ^ n ≤ u → Swept rule n (wide + (stride - 1)) back0 back1 b₀ b
+    pub turns_end : length b₀.reals ≤ u → Swept rule n (wide + (stride - 1)) back0 back1 b₀ b
     turns_end l =
         record {
           same = t.same;
           pairs =
               record {
-                lower = λ v key x y. t.done.lower v key x (omega arith);
-                upper = λ v key x y. t.done.upper v key x (omega arith);
+                lower = λ v key x y. t.done.lower v key x (omega (arith, ok.keyed.reals));
+                upper = λ v key x y. t.done.upper v key x (omega (arith, ok.keyed.reals));
                 others = λ i f. t.done.others i (λ v key x y. f v key x (t.under v key y));
               };
         }

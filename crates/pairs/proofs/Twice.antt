@@ -3,10 +3,9 @@
 use Prim.Native.Nat.{ℕ}
 use mathlib.Core.Path.{◌≡◌, ap, ◌∙◌}
 use Rattle.book.proofs.Twice.{x_twice, swap_twice}
-use Rattle.book.specs.Answers.{Buffers, Does}
+use Rattle.book.specs.Answers.{Answer, Buffers, Does}
 use Rattle.book.specs.Calls.{act}
 use Rattle.book.specs.Twice.{Undoes}
-use Rattle.book.specs.declared.Answer.{Answer}
 use Rattle.book.specs.declared.Controls.{Controls}
 use Rattle.book.specs.declared.Gate.{Gate}
 use Rattle.book.specs.declared.Gate.TheVariants.{X, Swap}

@@ -1,33 +1,46 @@
 -- The rising sum over a half: a stretch of the half is added, a stretch of the other half adds nothing; so block by block, for either half. Assumes nothing.
-use Prim.Native.Nat.{ℕ, zero, suc, ◌+◌, ◌-◌, ◌*◌, ◌%◌, ◌^◌, ◌≤◌, ◌<◌}
+use Prim.Native.Nat.{ℕ, min, zero, suc, ◌+◌, ◌-◌, ◌*◌, ◌%◌, ◌^◌, ◌≤◌, ◌<◌}
 use mathlib.Core.Path.{◌≡◌, refl, sym, ap, ap₂, ◌∙◌}
 use native.Mathlib.Nat.{zero-mul, one-mul, mod-eq_of_lt}
 use native.Mathlib.Omega.{arith}
 use borrow.Author.Tests.{eq-eqb, ne_eqb}
-use lib.Ieee.{Float, binary64, of_bits}
+use lib.Ieee.{Float, binary64, nan, of_bits}
+use lib.ListN.{length, get_or, take, drop}
+use Rattle.std.proofs.Common.{get_or-drop, get_or-take, length-drop, length-take}
+use native.Mathlib.Numerals.{add-one}
+use mathlib.Core.List.{List}
 use lib.Pow.{pow_mono}
-use Rattle.book.specs.Answers.{Buffers}
+use Rattle.book.specs.Answers.{Buffers, buffers}
 use Rattle.book.specs.Gates.{◌⊕◌}
 use Rattle.book.specs.Measuring.{square, summed, probability}
-use Rattle.book.specs.State.{State, at, bit, uncontrolled}
+use Rattle.book.specs.State.{State, amplitude, at, bit, uncontrolled}
 use Rattle.probabilities.specs.Stretches.{Stretch, added}
+use Rattle.seated.proofs.Shifts.{shl, shl_is}
 use Rattle.seated.specs.Judging.{Seated}
 use Rattle.pairs.proofs.Blocks.{Base, first, room, next, low, high, ended}
 
 -- ---- a stretch
 
-pub added_none : (s : State) (from : ℕ) (start : Float) → start ≡ added s from start (from - from)
+pub added_none : (s : State) (from : ℕ) (start : Float) → start ≡ added s from start 0
 unfolding added
-added_none s from start = ap (added s from start) (let e : 0 ≡ from - from = omega arith in e)
+added_none s from start = refl
 
--- one place more
-pub added_more : (s : State) (from i : ℕ) (start : Float) {sum : Float} → from ≤ i → sum ≡ added s from start (i - from)
-    → sum ⊕ square (s i) ≡ added s from start (i + 1 - from)
+-- one place more, as the two slices have it
+pub added_more : (re im : List Float) (from n k : ℕ) (start : Float) {sum x y : Float} → k < n → x ≡ get_or (take n (drop from re)) k nan
+    → y ≡ get_or (take n (drop from im)) k nan → sum ≡ added (at (buffers re im)) from start k
+    → sum ⊕ square (amplitude x y) ≡ added (at (buffers re im)) from start (k + 1)
 unfolding added
-added_more s from i start l e =
-    let next : i + 1 - from ≡ suc (i - from) = omega arith in
-    let place : i ≡ from + (i - from) = omega arith in
-    ap₂ (λ (x : Float) (j : ℕ). x ⊕ square (s j)) e place ∙ ap (added s from start) (sym next)
+added_more re im from n k start l p q e =
+    let part : (xs : List Float) → get_or (take n (drop from xs)) k nan ≡ get_or xs (from + k) nan = λ xs. rw (get_or-take, get_or-drop) in
+    rw (add-one, p, q, e, part re, part im)
+
+-- and the slices' end
+pub added_all : (s : State) (re im : List Float) (from to m : ℕ) (start : Float) {sum : Float} → from ≤ to → to ≤ length re → to ≤ length im
+    → m ≡ min (length (take (to - from) (drop from re))) (length (take (to - from) (drop from im))) → sum ≡ added s from start m
+    → sum ≡ added s from start (to - from)
+added_all s re im from to m start l p q end e =
+    let size : m ≡ to - from = omega (arith, length-take (to - from) (drop from re), length-take (to - from) (drop from im), length-drop from re, length-drop from im) in
+    e ∙ ap (added s from start) size
 
 -- ---- the sum over the indices with target bit o
 
@@ -116,6 +129,29 @@ module _ {n t o : ℕ} {b : Buffers} (ok : Seated n t uncontrolled b) where
 
 pub small : {n t : ℕ} {b : Buffers} → Seated n t uncontrolled b → t ≤ 24
 small ok = omega (arith, ok.fits, ok.qubit)
+
+-- ---- the same over the code's shifts
+
+pub bit_is : {n t : ℕ} {b : Buffers} → Seated n t uncontrolled b → shl t ≡ 2 ^ t
+bit_is {t = t} ok = shl_is t (small ok)
+
+module _ {n t o : ℕ} {b : Buffers} (ok : Seated n t uncontrolled b) where
+  pub at_end : {base : ℕ} {sum : Float} → Summing n t o b base sum → shl n ≤ base → sum ≡ summed t o (at b) (2 ^ n)
+  at_end u l = sums_end ok u (rw (shl_is n ok.fits) at l)
+
+  module _ (either : o < 2) {base : ℕ} {sum : Float} (u : Summing n t o b base sum) (l : base < shl n) where
+    pub stretch : let from = base + o * 2 ^ t % 2 ^ 64 in Stretch from (from + shl t) b
+    stretch = rw (half_offset o t either (small ok), bit_is ok) (block_stretch ok u (rw (shl_is n ok.fits) at l) either)
+
+    pub next_block : {next_sum : Float}
+        → (let from = base + o * 2 ^ t % 2 ^ 64 in next_sum ≡ added (at b) from sum (from + shl t - from))
+        → Summing n t o b (base + (shl t + shl t)) next_sum
+    next_block e =
+        let from = base + o * 2 ^ t in
+        let size : from + 2 ^ t - from ≡ 2 ^ t = omega arith in
+        let place : base + 2 ^ t + 2 ^ t ≡ base + (2 ^ t + 2 ^ t) = omega arith in
+        let so_far = rw size at (rw (half_offset o t either (small ok), bit_is ok) at e) in
+        rw (bit_is ok, ← place) (block_done ok u (rw (shl_is n ok.fits) at l) either so_far)
 
 -- ---- the probability, by the outcome
 

@@ -15,12 +15,8 @@ fn add_squares(reals: &[f64], imags: &[f64], from: usize, to: usize, start: f64)
     ensures { result ≡ added (at (shown reals imags)) from start (to - from) }
 {
     let mut sum = start;
-    let mut i = from;
-    while i < to {
-        let x = reals[i];
-        let y = imags[i];
+    for (x, y) in reals[from..to].iter().zip(&imags[from..to]) {
         sum = sum + (x * x + y * y);
-        i += 1;
     }
     sum
 }
@@ -34,11 +30,9 @@ fn sum_half(reals: &[f64], imags: &[f64], n: u32, target: u32, outcome: u8) -> f
     let bit: usize = 1 << target;
     let offset = (outcome as usize) << target;
     let mut sum = 0.0;
-    let mut base = 0;
-    while base < size {
+    for base in (0..size).step_by(bit + bit) {
         let from = base + offset;
         sum = add_squares(reals, imags, from, from + bit, sum);
-        base = base + bit + bit;
     }
     sum
 }

@@ -5,9 +5,9 @@ ghost use Rattle.book.specs.Answers.{Does};
 ghost use Rattle.book.specs.Lent.{before, after, shown};
 ghost use Rattle.book.specs.Matrices.{product, product_state};
 
-use book::{Answer, Refusal};
+use book::Answer;
 use dots::fill_state;
-use matrices::{bad_lengths, bad_size};
+use matrices::{lengths, side};
 use row_sums::fill_product;
 
 // A times B, with A given first, into separate buffers.
@@ -22,16 +22,11 @@ pub fn multiply(
 ) -> Answer
     ensures { Does (product n (shown ar ai) (shown br bi) (before reals imags)) result (after reals imags) }
 {
-    if bad_size(n) {
-        return Answer::Refused(Refusal::Size);
-    }
-    let side: usize = 1 << n;
+    let side = side(n)?;
     let size = side * side;
-    if bad_lengths(ar, ai, size, br, bi, reals, imags, size) {
-        return Answer::Refused(Refusal::Length);
-    }
+    lengths(ar, ai, size, br, bi, reals, imags, size)?;
     fill_product(ar, ai, br, bi, reals, imags, side);
-    Answer::Taken
+    Ok(None)
 }
 
 // A matrix times a state, into separate buffers.
@@ -46,13 +41,8 @@ pub fn apply_unitary(
 ) -> Answer
     ensures { Does (product_state n (shown ar ai) (shown sr si) (before reals imags)) result (after reals imags) }
 {
-    if bad_size(n) {
-        return Answer::Refused(Refusal::Size);
-    }
-    let side: usize = 1 << n;
-    if bad_lengths(ar, ai, side * side, sr, si, reals, imags, side) {
-        return Answer::Refused(Refusal::Length);
-    }
+    let side = side(n)?;
+    lengths(ar, ai, side * side, sr, si, reals, imags, side)?;
     fill_state(ar, ai, sr, si, reals, imags, side);
-    Answer::Taken
+    Ok(None)
 }

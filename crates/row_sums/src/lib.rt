@@ -8,7 +8,8 @@ ghost use Rattle.matrices.specs.Filled.{Holds, Filled};
 ghost use Rattle.row_sums.specs.Sums.{Small, row_sum, row_dot, product_at};
 
 use book::Amplitude;
-use summands::{add_product, clear_row, read_at, write_at};
+use matrices::{read_at, write_at};
+use summands::{add_product, clear_row};
 
 // One inner index: a times a row of B, added to a row of sums.
 fn add_row(
@@ -26,13 +27,11 @@ fn add_row(
 {
     let re = a.re;
     let im = a.im;
-    let mut j = 0;
-    while j < side {
+    for j in 0..side {
         let sum = read_at(reals, imags, from + j);
         let b = read_at(br, bi, start + j);
         let next = add_product(sum, Amplitude { re, im }, b);
         write_at(reals, imags, from + j, next);
-        j += 1;
     }
 }
 
@@ -52,11 +51,9 @@ fn fill_row(
     ensures { Filled from side (row_dot side from (shown ar ai) (shown br bi) side) (before reals imags) (after reals imags) }
 {
     clear_row(reals, imags, from, side);
-    let mut inner = 0;
-    while inner < side {
+    for inner in 0..side {
         let a = read_at(ar, ai, from + inner);
         add_row(reals, imags, from, a, br, bi, inner * side, side);
-        inner += 1;
     }
 }
 
@@ -73,9 +70,7 @@ pub fn fill_product(
     requires { (side ≤ 64) × Holds (side * side) (shown_here ar ai) × Holds (side * side) (shown_here br bi) × Holds (side * side) (here reals imags) }
     ensures { Filled 0 (side * side) (product_at side (shown ar ai) (shown br bi)) (before reals imags) (after reals imags) }
 {
-    let mut row = 0;
-    while row < side {
+    for row in 0..side {
         fill_row(ar, ai, br, bi, reals, imags, row * side, side);
-        row += 1;
     }
 }

@@ -4,117 +4,95 @@
 
 ghost use Rattle.std.specs.Prelude.{◌+◌, ◌-◌};
 ghost use Rattle.book.specs.Lent.{before, after, here};
-ghost use Rattle.rules.specs.Rules.{quick_of};
 ghost use Rattle.pairs.specs.Pairs.{Swept};
 ghost use Rattle.pairs.specs.Runs.{Run, RunDone, Runs};
 
-use book::Angle;
 use pairs::{read_pair, write_pair, write_two};
-use rules::put_quick;
+use rules::Rule;
 
 // One pair at a turn, at each stride-th place.
-fn along(
+#[inline(always)]
+fn along<R: Rule>(
     reals: &mut [f64],
     imags: &mut [f64],
     run: usize,
     d: usize,
     stride: usize,
-    rule: u32,
-    angle: Angle,
+    rule: R,
 )
     requires { Run run d stride (here reals imags) }
-    ensures { RunDone (quick_of rule angle) run d stride (before reals imags) (after reals imags) }
+    ensures { RunDone (R.rule rule) run d stride (before reals imags) (after reals imags) }
 {
     let mut i = 0;
     while i < run {
         let p = read_pair(reals, imags, i, i + d);
-        let v = put_quick(rule, angle, p);
-        write_pair(reals, imags, i, i + d, v);
+        write_pair(reals, imags, i, i + d, rule.put(p));
         i += stride;
     }
 }
 
 // Two pairs at a turn: both are read before either is written.
-fn by_twos(
+#[inline(always)]
+fn by_twos<R: Rule>(
     reals: &mut [f64],
     imags: &mut [f64],
     run: usize,
     d: usize,
     stride: usize,
-    rule: u32,
-    angle: Angle,
+    rule: R,
 )
     requires { Run run d stride (here reals imags) }
-    ensures { RunDone (quick_of rule angle) run d stride (before reals imags) (after reals imags) }
+    ensures { RunDone (R.rule rule) run d stride (before reals imags) (after reals imags) }
 {
     let mut i = 0;
     while i < run {
         let next = i + stride;
         let p = read_pair(reals, imags, i, i + d);
         let q = read_pair(reals, imags, next, next + d);
-        let v = put_quick(rule, angle, p);
-        let w = put_quick(rule, angle, q);
+        let v = rule.put(p);
+        let w = rule.put(q);
         write_two(reals, imags, i, i + d, stride, v, w);
         i += stride * 2;
     }
 }
 
-// A run, whose keys are the stride-th below run.
-fn part(
-    reals: &mut [f64],
-    imags: &mut [f64],
-    run: usize,
-    d: usize,
-    stride: usize,
-    two: bool,
-    rule: u32,
-    angle: Angle,
-)
-    requires { Run run d stride (here reals imags) }
-    ensures { RunDone (quick_of rule angle) run d stride (before reals imags) (after reals imags) }
-{
-    if two {
-        by_twos(reals, imags, run, d, stride, rule, angle);
-        return;
-    }
-    along(reals, imags, run, d, stride, rule, angle);
+// The numbers of the runs: the fixed bits are wide and the ones below stride, a power of two, and a run is as long as the lowest bit of wide.
+#[derive(Clone, Copy)]
+pub struct Cut {
+    pub wide: usize,
+    pub run: usize,
+    pub stride: usize,
 }
 
-// u goes over the numbers that have all bits of wide, run by run; each stride-th of those is a key.
-// Its many parameters are for speed: each is a number that the compiler may know at a call.
-pub fn runs(
+// u goes over the numbers that have all bits of wide, run by run; each stride-th of those is a key. TWO pairs go at a turn, or one.
+#[inline(always)]
+pub fn runs<R: Rule, const TWO: bool>(
     reals: &mut [f64],
     imags: &mut [f64],
     n: u32,
-    wide: usize,
-    run: usize,
-    stride: usize,
+    cut: Cut,
     back0: usize,
     back1: usize,
-    two: bool,
-    rule: u32,
-    angle: Angle,
+    rule: R,
 )
-    requires { Runs n wide run stride back0 back1 (here reals imags) }
-    ensures { Swept (quick_of rule angle) n (wide + (stride - 1)) back0 back1 (before reals imags) (after reals imags) }
+    requires { Runs n cut.wide cut.run cut.stride back0 back1 (here reals imags) }
+    ensures { Swept (R.rule rule) n (cut.wide + (cut.stride - 1)) back0 back1 (before reals imags) (after reals imags) }
 {
     let size = reals.len();
+    let Cut { wide, run, stride } = cut;
     let low = stride - 1;
     let d = back0 - back1;
     let mut u = wide;
     while u < size {
         let a = u + low - back0;
         let e = u + run - back1;
-        part(
-            &mut reals[a..e],
-            &mut imags[a..e],
-            run,
-            d,
-            stride,
-            two,
-            rule,
-            angle,
-        );
+        let re = &mut reals[a..e];
+        let im = &mut imags[a..e];
+        if TWO {
+            by_twos(re, im, run, d, stride, rule);
+        } else {
+            along(re, im, run, d, stride, rule);
+        }
         u = (u + run) | wide;
     }
 }

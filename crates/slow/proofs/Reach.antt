@@ -4,78 +4,73 @@ use mathlib.Core.Bool.{true, false}
 use mathlib.Core.Logic.{◌⊎◌, inl, inr, ⊎_elim}
 use mathlib.Core.Path.{◌≡◌, sym, ap, ap₂, ◌∙◌, subst}
 use native.Mathlib.Nat.{mod-eq_of_lt}
+use native.Mathlib.Decide.{dec_lt}
 use native.Mathlib.Omega.{arith}
 use borrow.Author.Tests.{eq-eqb, ne_eqb}
 use lib.Bits.{bit_and}
-use lib.ListN.{length}
 use lib.Pow.{pow-lt}
 use Rattle.book.proofs.Bits.{bit_le, halves, up_lt}
 use Rattle.book.proofs.Places.{placed_lower, placed_upper}
 use Rattle.book.proofs.Twice.{exchange}
 use Rattle.book.specs.Answers.{Buffers}
 use Rattle.book.specs.Kernels.{exchanged}
-use Rattle.book.specs.State.{State, bit, chosen, pair, placed}
+use Rattle.book.specs.State.{State, at, bit, chosen, pair, placed}
 use Rattle.book.specs.declared.Amplitude.{Amplitude}
 use Rattle.book.specs.declared.Controls.{Controls}
 use Rattle.book.specs.declared.Pair.{Pair}
-use Rattle.matrices.proofs.Fills.{held_next}
 use Rattle.matrices.specs.Filled.{Holds, Filled}
 use Rattle.seated.proofs.Shifts.{shl, shl_is, pow_le}
-use Rattle.seated.specs.Judging.{Seated}
-use Rattle.slow.specs.Slow.{second_of, There, Ready, Reaches}
-use Rattle.slow.specs.declared.Deed.{Deed}
-use Rattle.slow.specs.declared.Deed.TheVariants.{Swap}
+use Rattle.slow.specs.Slow.{Sized, Reaches}
 
 module _ {target second : ℕ} {b : Buffers} {i : ℕ} (r : Reaches target second b i) where
-  within : (j : ℕ) → j < 2 ^ r.n → There b j
-  within j l = record { reals = omega (arith, r.ready.reals); imags = omega (arith, r.ready.imags) }
+  within : (j : ℕ) → j < 2 ^ r.n → Holds (j + 1) b
+  within j l = record { reals = omega (arith, r.sized.reals); imags = omega (arith, r.sized.imags) }
 
-  pub here_is : There b i
+  pub here_is : Holds (i + 1) b
   here_is = within i r.inside
 
-  pub above : bit target i ≡ 0 → There b (i + 2 ^ target)
-  above z = within (i + 2 ^ target) (up_lt r.n target i r.ready.one r.inside z)
+  pub above : bit target i ≡ 0 → Holds (i + 2 ^ target + 1) b
+  above z = within (i + 2 ^ target) (up_lt r.n target i r.one r.inside z)
 
-  pub below : There b (i - 2 ^ target)
+  pub below : Holds (i - 2 ^ target + 1) b
   below = within (i - 2 ^ target) (omega (arith, r.inside))
 
-  pub other : There b (exchanged target second i)
-  other = within (exchanged target second i) (exchange r.n target second i r.ready.one r.ready.two r.inside).within
+  pub other : Holds (exchanged target second i + 1) b
+  other = within (exchanged target second i) (exchange r.n target second i r.one r.two r.inside).within
 
   pub power : shl target ≡ 2 ^ target
-  power = shl_is target (omega (arith, r.ready.one, r.ready.fits))
+  power = shl_is target (omega (arith, r.one, r.sized.fits))
 
   pub small : i < 2 ^ 24
-  small = omega (arith, r.inside, pow_le r.n 24 r.ready.fits)
+  small = omega (arith, r.inside, pow_le r.n 24 r.sized.fits)
 
   pub room : i + 2 ^ target < 2 ^ 25
   room =
-      let l : target < 24 = omega (arith, r.ready.one, r.ready.fits) in
+      let l : target < 24 = omega (arith, r.one, r.sized.fits) in
       let h : 2 ^ target < 2 ^ 24 = pow-lt l in
       omega (arith, small)
 
--- a place below the code's `1 << n` of a state of n qubits
-module _ {n target second : ℕ} {b : Buffers} (r : Ready n target second b) where
-  pub size : shl n ≡ 2 ^ n
-  size = shl_is n r.fits
+  pub two_small : (target < 24) × (second < 24) × (i < 2 ^ 24)
+  two_small = (omega (arith, r.one, r.sized.fits), omega (arith, r.two, r.sized.fits), small)
 
-  pub reach : {i : ℕ} → i < shl n → Reaches target second b i
-  reach l = record { n = n; ready = r; inside = omega (arith, size) }
+-- the code's `1 << n` of a state of n qubits
+pub size : {n : ℕ} {b : Buffers} → Sized n b → shl n ≡ 2 ^ n
+size {n} s = shl_is n s.fits
 
-  pub room_for : {i : ℕ} {f : State} {b' : Buffers} → i < shl n → Filled 0 i f b b' → Holds (i + 1) b'
-  room_for l w = held_next l w (record { reals = omega (arith, size, r.reals); imags = omega (arith, size, r.imags) })
+-- one place more: what holds of each before it holds of it too
+pub filled_more : (P : ℕ → Amplitude → Type 0) (i : ℕ) {z : Amplitude} {b b' : Buffers} → ((k : ℕ) → k < i → P k (at b k)) → P i z
+    → Filled i 1 (λ j. z) b b' → (k : ℕ) → k < i + 1 → P k (at b' k)
+filled_more P i {b' = b'} so_far p w k l = by (dec_lt k i)
+  where
+    start : i + 0 ≡ i
+    start = omega arith
 
--- inputs that were judged, and outputs of their length
-pub both_ready : {n t u : ℕ} {c : Controls} {b out : Buffers} → Seated n t c b → u < n → length out.reals ≡ 2 ^ n → length out.imags ≡ 2 ^ n
-    → Ready n t u b × Ready n t t out
-both_ready s l re im = (
-  record { fits = s.fits; reals = s.reals; imags = s.imags; one = s.qubit; two = l },
-  record { fits = s.fits; reals = re; imags = im; one = s.qubit; two = s.qubit },
-)
-
--- the second qubit of SWAP
-pub swap_reaches : (d : Deed) {target u : ℕ} {b : Buffers} {i : ℕ} → d ≡ Swap u → Reaches target (second_of d target) b i → Reaches target u b i
-swap_reaches d {target} {u} {b} {i} e r = subst (λ (x : Deed). Reaches target (second_of x target) b i) e r
+    by : Dec (k < i) → P k (at b' k)
+    by (yes h) = subst (P k) (sym (w.others k (inl h))) (so_far k h)
+    by (no h) =
+        let same : i ≡ k = omega arith in
+        let stored = ap (at b') (sym start) ∙ w.here 0 (omega arith) in
+        subst (λ (j : ℕ). P j (at b' j)) same (subst (P i) (sym stored) p)
 
 -- the mask bits are all 1, or not
 is_chosen : (c : Controls) (i : ℕ) → bit_and i c.ones ≡ c.ones → chosen c i ≡ true

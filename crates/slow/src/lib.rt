@@ -3,37 +3,19 @@
 // An inner room: what it asks its caller has tested, and that is proved.
 #![tactic(auto)]
 
-ghost use Rattle.std.specs.Prelude.{◌≡◌, ◌^◌, ◌<◌};
+ghost use Rattle.std.specs.Prelude.{◌≡◌, ◌^◌, ◌<◌, ℕ};
 ghost use Rattle.book.specs.Kernels as Book;
-ghost use Rattle.book.specs.Lent.{after, here, shown, shown_here};
-ghost use Rattle.book.specs.State.{at, held, placed};
+ghost use Rattle.book.specs.Lent.{before, after, here, shown, shown_here, SameSize};
+ghost use Rattle.book.specs.State.{at, placed};
 ghost use Rattle.slow_rules.specs.Rules.{rule_of};
-ghost use Rattle.slow.specs.Slow.{leaves, second_of, There, Ready, Reaches};
+ghost use Rattle.slow.specs.Slow.{Reaches, Sized};
 
 use book::{Amplitude, Controls};
-use slow_rules::{Rule, put};
+use matrices::{read_at, write_at};
+use slow_rules::Rule;
 
-// What a gate does to the state: nothing, its rule to the chosen pairs, or the target exchanged with a second qubit.
-#[derive(Clone, Copy)]
-pub enum Deed {
-    Nothing,
-    Pairs(Rule),
-    Swap(u32),
-}
-
-// The amplitude at an index.
-fn amplitude_at(reals: &[f64], imags: &[f64], i: usize) -> Amplitude
-    requires { There (shown_here reals imags) i }
-    ensures { result ≡ at (shown reals imags) i }
-{
-    Amplitude {
-        re: reals[i],
-        im: imags[i],
-    }
-}
-
-// An index s0 has the target bit 0 and all mask bits 1, and s1 = s0 + 2^target. Only such pairs change.
-fn place_of_pair(
+// A rule put to the chosen pairs. An index s0 has the target bit 0 and all mask bits 1, and s1 = s0 + 2^target. Only such pairs change.
+pub fn place_of_pair(
     rule: Rule,
     target: u32,
     controls: Controls,
@@ -47,15 +29,15 @@ fn place_of_pair(
     let ones = controls.ones as usize;
     let bit: usize = 1 << target;
     let above = i + bit;
-    let own = amplitude_at(reals, imags, i);
+    let own = read_at(reals, imags, i);
     if i & ones != ones {
         return own;
     }
     if (i >> target) % 2 == 0 {
-        let both = put(rule, own, amplitude_at(reals, imags, above));
+        let both = rule.put(own, read_at(reals, imags, above));
         return both.s0;
     }
-    let both = put(rule, amplitude_at(reals, imags, i - bit), own);
+    let both = rule.put(read_at(reals, imags, i - bit), own);
     both.s1
 }
 
@@ -69,46 +51,23 @@ fn exchanged(t0: u32, t1: u32, i: usize) -> usize
     i + (bit1 << t0) + (bit0 << t1) - ((bit0 << t0) + (bit1 << t1))
 }
 
-// What the deed leaves at an index.
-fn place(
-    deed: Deed,
-    target: u32,
-    controls: Controls,
-    reals: &[f64],
-    imags: &[f64],
-    i: usize,
-) -> Amplitude
-    requires { Reaches target (second_of deed target) (shown_here reals imags) i }
-    ensures { result ≡ leaves deed target controls (at (shown reals imags)) i }
+// The target exchanged with a second qubit: the amplitude of the index with both bits exchanged.
+pub fn place_of_swap(target: u32, second: u32, reals: &[f64], imags: &[f64], i: usize) -> Amplitude
+    requires { Reaches target second (shown_here reals imags) i }
+    ensures { result ≡ at (shown reals imags) (Book.exchanged target second i) }
 {
-    match deed {
-        Deed::Nothing => amplitude_at(reals, imags, i),
-        Deed::Pairs(rule) => place_of_pair(rule, target, controls, reals, imags, i),
-        Deed::Swap(second) => amplitude_at(reals, imags, exchanged(target, second, i)),
-    }
+    read_at(reals, imags, exchanged(target, second, i))
 }
 
 // Every index of the outputs, one after the other.
-pub fn fill(
-    deed: Deed,
-    n: u32,
-    target: u32,
-    controls: Controls,
-    sr: &[f64],
-    si: &[f64],
-    reals: &mut [f64],
-    imags: &mut [f64],
-)
-    requires inputs { Ready n target (second_of deed target) (shown_here sr si) }
-    requires outputs { Ready n target target (here reals imags) }
-    ensures { after reals imags ≡ held (2 ^ n) (leaves deed target controls (at (shown sr si))) }
+pub fn fill<F: Fn(usize) -> Amplitude>(place: F, n: u32, reals: &mut [f64], imags: &mut [f64])
+    requires outputs { Sized n (here reals imags) }
+    requires each { (i : ℕ) → i < 2 ^ n → F.pre place i }
+    ensures size { SameSize (before reals imags) (after reals imags) }
+    ensures places { (i : ℕ) → i < 2 ^ n → F.post place i (at (after reals imags) i) }
 {
     let size: usize = 1 << n;
-    let mut i: usize = 0;
-    while i < size {
-        let z = place(deed, target, controls, sr, si, i);
-        reals[i] = z.re;
-        imags[i] = z.im;
-        i += 1;
+    for i in 0..size {
+        write_at(reals, imags, i, place(i));
     }
 }

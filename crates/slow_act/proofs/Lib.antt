@@ -1,3 +1,2 @@
--- Copies: a list copied place by place. Over: into a second state and back is in place.
-pub mod Copies
+-- Over: into a second state and back is in place.
 pub mod Over

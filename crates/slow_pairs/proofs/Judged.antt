@@ -1,54 +1,66 @@
--- A gate that has a rule, judged: its own tests behind its seat's, what the engine asks, and what its answer then does. Assumes nothing.
-use Prim.Native.Nat.{ℕ, ◌^◌}
+-- A gate that has a rule, judged: what each test refuses, what the engine asks, and what its closure worked out. Assumes nothing.
+use Prim.Native.Nat.{ℕ, ◌^◌, ◌<◌}
 use mathlib.Core.List.{◌++◌}
-use mathlib.Core.Path.{◌≡◌, ap}
+use mathlib.Core.Path.{◌≡◌, refl, ◌∙◌}
 use lib.Dec.{T}
+use Rattle.std.specs.Prelude.{None, Ok, Err}
 use Rattle.book.proofs.Refusals.{numbered}
-use Rattle.book.specs.Answers.{says, Buffers, Outcome, outcome_of, Does}
+use Rattle.book.proofs.Tables.{held_only}
+use Rattle.book.specs.Answers.{Buffers, Outcome, outcome_of, Does}
 use Rattle.book.specs.Kernels.{size_tests, seat_tests}
-use Rattle.book.specs.State.{at, held, placed, on_pairs}
-use Rattle.book.specs.declared.Answer.{Answer}
-use Rattle.book.specs.declared.Answer.TheVariants.{Taken}
+use Rattle.book.specs.Lent.{SameSize}
+use Rattle.book.specs.State.{at, placed, on_pairs}
 use Rattle.book.specs.declared.Controls.{Controls}
-use Rattle.into.proofs.Judged.{seat_judged, all_judged, passed_both}
+use Rattle.book.specs.declared.Refusal.{Refusal}
+use Rattle.into.proofs.Judged.{right_sizes, size_refuses, seat_refuses, own_refuses, passes}
 use Rattle.into.specs.Into.{into_tests}
-use Rattle.seated.proofs.Judged.{passed, works, keeps}
+use Rattle.seated.proofs.Judged.{passed, own_decides}
 use Rattle.seated.proofs.Seats.{seated}
-use Rattle.seated.specs.Judging.{Judges, first_of}
-use Rattle.slow.proofs.Reach.{both_ready}
-use Rattle.slow.specs.Slow.{Ready}
-use Rattle.slow_rules.specs.Rules.{rule_of}
+use Rattle.seated.specs.Judging.{Judges, Seated}
+use Rattle.slow.specs.Slow.{Sized, Reaches}
+use Rattle.slow_rules.specs.Rules.{rule_of, most_of, own_of}
 use Rattle.slow_rules.specs.declared.Rule.{Rule}
-use Rattle.slow_pairs.specs.Rows.{most_of, own_of, rule_call}
+use Rattle.slow_pairs.specs.Rows.{rule_call}
 
-seats_numbered : (most n t : ℕ) (c : Controls) → T (numbered (seat_tests most n t c))
-unfolding seat_tests
-seats_numbered most n t c = tt
+all_numbered : (n : ℕ) (b : Buffers) (most t : ℕ) (c : Controls) → T (numbered (size_tests n b ++ seat_tests most n t c))
+unfolding size_tests seat_tests
+all_numbered n b most t c = tt
 
-pub record PairJudged (rule : Rule) (n t : ℕ) (c : Controls) (b out : Buffers) (r : Answer) : Type 0 where
-  pub is : Judges (into_tests n b out ++ (rule_call rule n t c b).tests) r
+-- outputs that were judged
+pub outputs : (n : ℕ) (out : Buffers) {u : Unit} → Judges (size_tests n out) (Ok u) → Sized n out
+outputs n out j = let s = right_sizes n out j in record { fits = s.0; reals = s.1; imags = s.2 }
 
-pub pair_judged : {rule : Rule} {n t : ℕ} {c : Controls} {b out : Buffers} {s u m o r : Answer} → Judges (size_tests n out) s
-    → Judges (size_tests n b ++ seat_tests (most_of rule) n t c) u → m ≡ first_of s u → Judges (own_of rule) o
-    → r ≡ first_of m o → PairJudged rule n t c b out r
-pair_judged {rule} {n} {t} {c} {b} {out} j k e l f =
-    let seats = seat_tests (most_of rule) n t c in
-    record { is = all_judged n b out seats (own_of rule) (seats_numbered (most_of rule) n t c) (seat_judged n b out seats j k e) l f }
-
-module _ {rule : Rule} {n t : ℕ} {c : Controls} {b out : Buffers} {r : Answer} (j : PairJudged rule n t c b out r) where
-  abbrev pair_outcome : Outcome
+module _ (rule : Rule) (n t : ℕ) (c : Controls) (b out : Buffers) where
+  abbrev pub pair_outcome : Outcome
   pair_outcome = outcome_of (into_tests n b out) out (rule_call rule n t c b)
 
-  pub pair_kept : (r ≡ Taken → ⊥) → Does pair_outcome r out
-  pair_kept h = keeps (into_tests n b out) out (rule_call rule n t c b) j.is h
+  abbrev numbers : T (numbered (size_tests n b ++ seat_tests (most_of rule) n t c))
+  numbers = all_numbered n b (most_of rule) t c
 
-  module _ (e : r ≡ Taken) where
-    pub pair_ready : Ready n t t b × Ready n t t out
-    pair_ready =
-        let p = passed_both n b out (rule_call rule n t c b).tests (passed j.is e) in
-        let s = seated (most_of rule) n t c b (own_of rule) p.inputs in
-        both_ready s s.qubit p.reals p.imags
+  pub pair_size : {r : Refusal} → Judges (size_tests n out) (Err r) → Does pair_outcome (Err r) out
+  pair_size = size_refuses n b out (seat_tests (most_of rule) n t c) (own_of rule) numbers None (on_pairs (rule_of rule) n t c b)
 
-    pub pair_done : {b' : Buffers} → b' ≡ held (2 ^ n) (placed (rule_of rule) t c (at b)) → Does pair_outcome r b'
-    unfolding on_pairs
-    pair_done h = works (into_tests n b out) out (rule_call rule n t c b) j.is e (ap says e) h
+  module _ {u : Unit} (j : Judges (size_tests n out) (Ok u)) where
+    pub pair_seat : {r : Refusal} → Judges (size_tests n b ++ seat_tests (most_of rule) n t c) (Err r) → Does pair_outcome (Err r) out
+    pair_seat = seat_refuses n b out (seat_tests (most_of rule) n t c) (own_of rule) numbers None (on_pairs (rule_of rule) n t c b) j
+
+    module _ {u' : Unit} (k : Judges (size_tests n b ++ seat_tests (most_of rule) n t c) (Ok u')) where
+      pub pair_own : {r : Refusal} → Judges (own_of rule) (Err r) → Does pair_outcome (Err r) out
+      pair_own = own_refuses n b out (seat_tests (most_of rule) n t c) (own_of rule) numbers None (on_pairs (rule_of rule) n t c b) j k
+
+      module _ {u'' : Unit} (l : Judges (own_of rule) (Ok u'')) where
+        pub pair_seated : Seated n t c b
+        pair_seated = seated (most_of rule) n t c b (own_of rule) (passed (own_decides (size_tests n b) (seat_tests (most_of rule) n t c) (own_of rule) numbers k l))
+
+        pub pair_reaches : (i : ℕ) → i < 2 ^ n → Reaches t t b i
+        pair_reaches i h =
+            let s = pair_seated in
+            record { n = n; sized = record { fits = s.fits; reals = s.reals; imags = s.imags }; one = s.qubit; two = s.qubit; inside = h }
+
+        pub pair_done : {b' : Buffers} → SameSize out b' → ((i : ℕ) → i < 2 ^ n → at b' i ≡ placed (rule_of rule) t c (at b) i)
+            → Does pair_outcome (Ok None) b'
+        unfolding on_pairs
+        pair_done {b'} s h =
+            let o = outputs n out j in
+            passes n b out (seat_tests (most_of rule) n t c) (own_of rule) numbers None (on_pairs (rule_of rule) n t c b) j k l refl
+            (held_only (2 ^ n) (placed (rule_of rule) t c (at b)) b' (s.reals ∙ o.reals) (s.imags ∙ o.imags) h)

@@ -1,14 +1,17 @@
 // The slow engine's rules: each gate's as 01 lists it, with (a,b) at s0 and (c,d) at s1: each sum, difference and product rounds once, in the order written.
+// And what a gate with a rule asks: how many controls it takes, and its own tests.
 #![tactic(auto)]
 
 ghost use Rattle.std.specs.Prelude.{◌≡◌};
 ghost use Rattle.book.specs.Gates as Gates;
 ghost use Rattle.book.specs.Gates.{h_rule, p_rule, rx_rule, ry_rule, rz_rule, u_matrix, u_rule};
 ghost use Rattle.book.specs.State.{amplitude, pair};
-ghost use Rattle.slow_rules.specs.Rules.{rule_of};
+ghost use Rattle.seated.specs.Judging.{Judges};
+ghost use Rattle.slow_rules.specs.Rules.{rule_of, most_of, own_of};
 
-use book::{Amplitude, Angle, Angles, Pair};
+use book::{ANY, Amplitude, Angle, Angles, Pair, Refusal};
 use fused::fused;
+use judging::numbers;
 
 // The gates that have a rule, with the numbers that each is fed.
 #[derive(Clone, Copy)]
@@ -110,23 +113,45 @@ fn u(angles: Angles, a: f64, b: f64, c: f64, d: f64) -> Pair
     becomes(x, y, z, w)
 }
 
-// X exchanges s0 and s1.
-pub fn put(rule: Rule, ab: Amplitude, cd: Amplitude) -> Pair
-    ensures { result ≡ rule_of rule (pair ab cd) }
-{
-    let a = ab.re;
-    let b = ab.im;
-    let c = cd.re;
-    let d = cd.im;
-    match rule {
-        Rule::H => h(a, b, c, d),
-        Rule::X => becomes(c, d, a, b),
-        Rule::Y => becomes(d, -c, -b, a),
-        Rule::Z => becomes(a, b, -c, -d),
-        Rule::P(angle) => p(angle, a, b, c, d),
-        Rule::Rx(angle) => rx(angle, a, b, c, d),
-        Rule::Ry(angle) => ry(angle, a, b, c, d),
-        Rule::Rz(angle) => rz(angle, a, b, c, d),
-        Rule::U(angles) => u(angles, a, b, c, d),
+impl Rule {
+    // What the rule makes of a pair. X exchanges s0 and s1.
+    pub fn put(self, ab: Amplitude, cd: Amplitude) -> Pair
+        ensures { result ≡ rule_of self (pair ab cd) }
+    {
+        let Amplitude { re: a, im: b } = ab;
+        let Amplitude { re: c, im: d } = cd;
+        match self {
+            Rule::H => h(a, b, c, d),
+            Rule::X => becomes(c, d, a, b),
+            Rule::Y => becomes(d, -c, -b, a),
+            Rule::Z => becomes(a, b, -c, -d),
+            Rule::P(angle) => p(angle, a, b, c, d),
+            Rule::Rx(angle) => rx(angle, a, b, c, d),
+            Rule::Ry(angle) => ry(angle, a, b, c, d),
+            Rule::Rz(angle) => rz(angle, a, b, c, d),
+            Rule::U(angles) => u(angles, a, b, c, d),
+        }
+    }
+
+    // How many controls its gate takes.
+    pub fn most(self) -> u32
+        ensures { result ≡ most_of self }
+    {
+        match self {
+            Rule::X | Rule::P(_) | Rule::Rx(_) | Rule::Ry(_) => ANY,
+            Rule::H | Rule::Y | Rule::Rz(_) | Rule::U(_) => 1,
+            Rule::Z => 0,
+        }
+    }
+
+    // The gate's own tests, behind those of its seat: 6 of what it is fed.
+    pub fn judge(self) -> Result<(), Refusal>
+        ensures { Judges (own_of self) result }
+    {
+        match self {
+            Rule::H | Rule::X | Rule::Y | Rule::Z => Ok(()),
+            Rule::P(a) | Rule::Rx(a) | Rule::Ry(a) | Rule::Rz(a) => numbers(&[a.cosine, a.sine]),
+            Rule::U(g) => numbers(&[g.ct, g.st, g.cl, g.sl, g.cpl, g.spl, g.cp, g.sp]),
+        }
     }
 }

@@ -1,97 +1,116 @@
--- SWAP and the bit flip, judged: what the engine asks, and what the answer then does. Assumes nothing.
-use Prim.Native.Nat.{ℕ, ◌^◌}
+-- SWAP and the bit flip, judged: what each test refuses, what the engine asks, and what its closure worked out. Assumes nothing.
+use Prim.Native.Nat.{ℕ, ◌+◌, ◌^◌, ◌≤◌, ◌<◌, max}
+use native.Mathlib.Decide.{dec_le}
 use mathlib.Core.Bool.{Bool, true, false, cond, ◌||◌}
 use mathlib.Core.List.{[], ◌∷◌, ◌++◌}
 use mathlib.Core.Path.{◌≡◌, refl, sym, ap, ◌∙◌, subst}
+use native.Mathlib.Omega.{arith}
 use borrow.Author.Tests.{leb-false}
-use lib.Dec.{leb}
+use lib.Dec.{T, leb}
 use lib.Ieee as Ieee
-use Rattle.book.proofs.Refusals.{clear, clear_start, neither, sizes_numbered}
+use Rattle.std.specs.Prelude.{Some, None, Ok, Err}
+use Rattle.book.proofs.Refusals.{numbered, clear}
 use Rattle.book.proofs.Tables.{held_only}
-use Rattle.book.specs.Answers.{value, says, ◌⇒◌, first, Buffers, Outcome, outcome_of, Does}
+use Rattle.book.specs.Answers.{value, ◌⇒◌, Buffers, Does}
 use Rattle.book.specs.Gates.{x_rule, noise_of, finite_tests}
-use Rattle.book.specs.Kernels.{size_tests, exchanged, swapped, swap_call, bit_flip_call}
-use Rattle.book.specs.State.{at, held, uncontrolled, placed, on_pairs}
-use Rattle.book.specs.declared.Answer.{Answer}
-use Rattle.book.specs.declared.Answer.TheVariants.{Taken, Value}
+use Rattle.book.specs.Kernels.{exchanged, swapped, swap_call, bit_flip_call}
+use Rattle.book.specs.Lent.{SameSize}
+use Rattle.book.specs.State.{at, uncontrolled, placed, on_pairs}
+use Rattle.book.specs.declared.Gate.TheVariants.{Swap, BitFlip}
 use Rattle.book.specs.declared.Noise.{Noise}
-use Rattle.into.proofs.Judged.{seat_judged, all_judged, passed_both}
-use Rattle.into.specs.Into.{into_tests}
-use Rattle.seated.proofs.Judged.{passed, works, keeps}
-use Rattle.seated.proofs.Seats.{free_seated}
-use Rattle.seated.specs.Judging.{Judges, first_of, free_tests}
-use Rattle.slow.proofs.Reach.{both_ready}
-use Rattle.slow.specs.Slow.{Ready}
+use Rattle.book.specs.declared.Refusal.{Refusal}
+use Rattle.into.proofs.Judged.{passed_both}
+use Rattle.into.specs.Into.{into_tests, into}
+use Rattle.seated.proofs.Judged.{seat_refused, own_decides, works, keeps}
+use Rattle.seated.proofs.Seats.{higher}
+use Rattle.seated.specs.Judging.{Ruling, Judges, free_tests}
+use Rattle.slow.specs.Slow.{Sized, Reaches}
+
+-- ---- after the judge of both
+
+module _ (n t : ℕ) (b out : Buffers) {u : Unit} (j : Judges (into_tests n b out ++ free_tests n t) (Ok u)) where
+  pub outputs : Sized n out
+  outputs = let p = (passed_both n b out (free_tests n t) j).0 in record { fits = p.fits; reals = p.outs.0; imags = p.outs.1 }
+
+  pub inputs : Sized n b
+  inputs = let p = (passed_both n b out (free_tests n t) j).0 in record { fits = p.fits; reals = p.ins.0; imags = p.ins.1 }
+
+  qubit : t < n
+  qubit = leb-false n t (clear (free_tests n t) tt (passed_both n b out (free_tests n t) j).1).0
+
+  pub reaches : (x y : ℕ) → x < t + 1 → y < t + 1 → (i : ℕ) → i < 2 ^ n → Reaches x y b i
+  reaches x y l m i h = record { n = n; sized = inputs; one = omega (arith, qubit); two = omega (arith, qubit); inside = h }
 
 -- ---- SWAP: its two qubits are judged by the higher
 
-pub record SwapJudged (n t u : ℕ) (b out : Buffers) (r : Answer) : Type 0 where
-  pub is : Judges (into_tests n b out ++ (swap_call n t u b).tests) r
+or_comm : (x y : Bool) → (x || y) ≡ (y || x)
+or_comm true true = refl
+or_comm true false = refl
+or_comm false true = refl
+or_comm false false = refl
 
-pub swap_judged : (k : ℕ) {n t u : ℕ} {b out : Buffers} {s m r : Answer} → ((n : ℕ) → leb n k ≡ (leb n t || leb n u)) → Judges (size_tests n out) s
-    → Judges (size_tests n b ++ free_tests n k) m → r ≡ first_of s m → SwapJudged n t u b out r
-swap_judged k {n} {b = b} {out} {r = r} higher j l e =
-    record { is = subst (λ (x : Bool). Judges (into_tests n b out ++ (x ⇒ 3 ∷ [])) r) (higher n) (seat_judged n b out (free_tests n k) j l e) }
+by_higher : (n t0 t1 : ℕ) → leb n (max t0 t1) ≡ (leb n t0 || leb n t1)
+by_higher n t0 t1 = by (dec_le t0 t1)
+  where
+    by : Dec (t0 ≤ t1) → leb n (max t0 t1) ≡ (leb n t0 || leb n t1)
+    by (yes l) = let is : max t0 t1 ≡ t1 = omega arith in rw is (higher n t0 t1 l)
+    by (no l) = let is : max t0 t1 ≡ t0 = omega arith in rw is (higher n t1 t0 (let k : t1 ≤ t0 = omega arith in k) ∙ or_comm (leb n t1) (leb n t0))
 
-module _ {n t u : ℕ} {b out : Buffers} {r : Answer} (j : SwapJudged n t u b out r) where
-  abbrev swap_outcome : Outcome
-  swap_outcome = outcome_of (into_tests n b out) out (swap_call n t u b)
+module _ (n t0 t1 : ℕ) (b out : Buffers) where
+  tests : {r : Ruling} → Judges (into_tests n b out ++ free_tests n (max t0 t1)) r → Judges (into_tests n b out ++ (swap_call n t0 t1 b).tests) r
+  tests {r} j = subst (λ (x : Bool). Judges (into_tests n b out ++ (x ⇒ 3 ∷ [])) r) (by_higher n t0 t1) j
 
-  pub swap_kept : (r ≡ Taken → ⊥) → Does swap_outcome r out
-  swap_kept h = keeps (into_tests n b out) out (swap_call n t u b) j.is h
+  pub swap_kept : {r : Refusal} → Judges (into_tests n b out ++ free_tests n (max t0 t1)) (Err r) → Does (into n (Swap t0 t1) b out) (Err r) out
+  swap_kept j = keeps (into_tests n b out) out (swap_call n t0 t1 b) (tests j)
 
-  module _ (e : r ≡ Taken) where
-    pub swap_ready : Ready n t u b × Ready n t t out
-    swap_ready =
-        let tests = (leb n t || leb n u) ⇒ 3 ∷ [] in
-        let p = passed_both n b out tests (passed j.is e) in
-        let behind = (clear_start (size_tests n b) tests (sizes_numbered n b) p.inputs).1 in
-        let (x, y) = neither (leb n t) (leb n u) (clear tests tt behind).0 in
-        let far : (leb n t || leb n u) ≡ leb n t = rw (x, y) in
-        let s = free_seated n t b [] (subst (λ (z : Bool). first (size_tests n b ++ (z ⇒ 3 ∷ [])) ≡ 0) far p.inputs) in
-        both_ready s (leb-false n u y) p.reals p.imags
+  module _ {u : Unit} (j : Judges (into_tests n b out ++ free_tests n (max t0 t1)) (Ok u)) where
+    pub swap_reaches : (i : ℕ) → i < 2 ^ n → Reaches t0 t1 b i
+    swap_reaches = reaches n (max t0 t1) b out j t0 t1 (omega arith) (omega arith)
 
-    pub swap_done : {b' : Buffers} → b' ≡ held (2 ^ n) (λ i. at b (exchanged t u i)) → Does swap_outcome r b'
+    pub swap_done : {b' : Buffers} → SameSize out b' → ((i : ℕ) → i < 2 ^ n → at b' i ≡ at b (exchanged t0 t1 i))
+        → Does (into n (Swap t0 t1) b out) (Ok None) b'
     unfolding swapped
-    swap_done h = works (into_tests n b out) out (swap_call n t u b) j.is e (ap says e) h
+    swap_done {b'} s h =
+        let o = outputs n (max t0 t1) b out j in
+        works (into_tests n b out) out (swap_call n t0 t1 b) (tests j) refl
+        (held_only (2 ^ n) (λ i. at b (exchanged t0 t1 i)) b' (s.reals ∙ o.reals) (s.imags ∙ o.imags) h)
 
 -- ---- bit flip: its seat, and then its two numbers
 
-pub record FlipJudged (n t : ℕ) (noise : Noise) (b out : Buffers) (r : Answer) : Type 0 where
-  pub is : Judges (into_tests n b out ++ (bit_flip_call n t noise b).tests) r
+free_numbered : (n t : ℕ) (b out : Buffers) → T (numbered (into_tests n b out ++ free_tests n t))
+unfolding into_tests
+free_numbered n t b out = tt
 
-pub flip_judged : {n t : ℕ} {noise : Noise} {b out : Buffers} {s u m o r : Answer} → Judges (size_tests n out) s → Judges (size_tests n b ++ free_tests n t) u
-    → m ≡ first_of s u → Judges (finite_tests (noise_of noise)) o → r ≡ first_of m o → FlipJudged n t noise b out r
-flip_judged {n} {t} {noise} {b} {out} j k e l f =
-    record { is = all_judged n b out (free_tests n t) (finite_tests (noise_of noise)) tt (seat_judged n b out (free_tests n t) j k e) l f }
+module _ (n t : ℕ) (noise : Noise) (b out : Buffers) where
+  pub flip_kept : {r : Refusal} → Judges (into_tests n b out ++ free_tests n t) (Err r) → Does (into n (BitFlip t noise) b out) (Err r) out
+  flip_kept j =
+      keeps (into_tests n b out) out (bit_flip_call n t noise b)
+      (seat_refused (into_tests n b out) (free_tests n t) (finite_tests (noise_of noise)) (free_numbered n t b out) j)
 
-module _ {n t : ℕ} {noise : Noise} {b out : Buffers} {r : Answer} (j : FlipJudged n t noise b out r) where
-  abbrev flip_outcome : Outcome
-  flip_outcome = outcome_of (into_tests n b out) out (bit_flip_call n t noise b)
+  module _ {u : Unit} (j : Judges (into_tests n b out ++ free_tests n t) (Ok u)) where
+    all : {r : Ruling} → Judges (finite_tests (noise_of noise)) r → Judges (into_tests n b out ++ (bit_flip_call n t noise b).tests) r
+    all k = own_decides (into_tests n b out) (free_tests n t) (finite_tests (noise_of noise)) (free_numbered n t b out) j k
 
-  pub flip_kept : (r ≡ Taken → ⊥) → Does flip_outcome r out
-  flip_kept h = keeps (into_tests n b out) out (bit_flip_call n t noise b) j.is h
+    pub flip_number : {r : Refusal} → Judges (finite_tests (noise_of noise)) (Err r) → Does (into n (BitFlip t noise) b out) (Err r) out
+    flip_number k = keeps (into_tests n b out) out (bit_flip_call n t noise b) (all k)
 
-  module _ (e : r ≡ Taken) where
-    pub flip_ready : Ready n t t b × Ready n t t out
-    flip_ready =
-        let p = passed_both n b out (bit_flip_call n t noise b).tests (passed j.is e) in
-        let s = free_seated n t b (finite_tests (noise_of noise)) p.inputs in
-        both_ready s s.qubit p.reals p.imags
+    pub flip_reaches : (i : ℕ) → i < 2 ^ n → Reaches t t b i
+    flip_reaches = reaches n t b out j t t (omega arith) (omega arith)
 
     -- ran or not
-    flips : (ran : Bool) → Ieee.le noise.draw noise.prob ≡ ran → {r' : Answer} {b' : Buffers} → says r' ≡ value (cond ran 1 0)
-        → b' ≡ cond ran (on_pairs x_rule n t uncontrolled b) b → Does flip_outcome r' b'
-    flips ran h p q =
-        works (into_tests n b out) out (bit_flip_call n t noise b) j.is e (p ∙ ap (λ (x : Bool). value (cond x 1 0)) (sym h))
+    flips : {v : Unit} → Judges (finite_tests (noise_of noise)) (Ok v) → (ran : Bool) → Ieee.le noise.draw noise.prob ≡ ran → {b' : Buffers}
+        → b' ≡ cond ran (on_pairs x_rule n t uncontrolled b) b → Does (into n (BitFlip t noise) b out) (Ok (Some (cond ran 1 0))) b'
+    flips k ran h {b'} q =
+        works (into_tests n b out) out (bit_flip_call n t noise b) (all k) (ap (λ (x : Bool). value (cond x 1 0)) (sym h))
         (q ∙ ap (λ (x : Bool). cond x (on_pairs x_rule n t uncontrolled b) b) (sym h))
 
-    pub flip_ran : Ieee.le noise.draw noise.prob ≡ true → {b' : Buffers} → b' ≡ held (2 ^ n) (placed x_rule t uncontrolled (at b))
-        → Does flip_outcome (Value 1) b'
+    pub flip_ran : {v : Unit} → Judges (finite_tests (noise_of noise)) (Ok v) → Ieee.le noise.draw noise.prob ≡ true → {b' : Buffers} → SameSize out b'
+        → ((i : ℕ) → i < 2 ^ n → at b' i ≡ placed x_rule t uncontrolled (at b) i) → Does (into n (BitFlip t noise) b out) (Ok (Some 1)) b'
     unfolding on_pairs
-    flip_ran h q = flips true h refl q
+    flip_ran k h {b'} s p =
+        let o = outputs n t b out j in
+        flips k true h (held_only (2 ^ n) (placed x_rule t uncontrolled (at b)) b' (s.reals ∙ o.reals) (s.imags ∙ o.imags) p)
 
-    pub flip_not : Ieee.le noise.draw noise.prob ≡ false → {b' : Buffers} → b' ≡ held (2 ^ n) (at b) → Does flip_outcome (Value 0) b'
-    flip_not h q =
-        let r = flip_ready.0 in
-        flips false h refl (q ∙ sym (held_only (2 ^ n) (at b) b r.reals r.imags (λ i l. refl)))
+    pub flip_not : {v : Unit} → Judges (finite_tests (noise_of noise)) (Ok v) → Ieee.le noise.draw noise.prob ≡ false
+        → Does (into n (BitFlip t noise) b out) (Ok (Some 0)) b
+    flip_not k h = flips k false h refl

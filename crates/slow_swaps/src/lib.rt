@@ -1,25 +1,34 @@
 // SWAP and the bit flip by the slow engine: judged, then every index of the outputs.
 #![tactic(auto)]
 
-ghost use Rattle.std.specs.Prelude.{◌||◌, ◌≡◌, ℕ, leb};
+ghost use Rattle.std.specs.Prelude.{◌++◌};
 ghost use Rattle.book.specs.Answers.{Does};
 ghost use Rattle.book.specs.Lent.{before, after, shown};
 ghost use Rattle.book.specs.declared.Gate.TheVariants as Gate;
-ghost use Rattle.into.specs.Into.{into};
+ghost use Rattle.into.specs.Into.{into_tests, into};
+ghost use Rattle.seated.specs.Judging.{Judges, free_tests};
 
-use book::{Answer, Controls, Noise};
-use judging::{free_seat, numbers, size, then};
-use slow::{Deed, fill};
+use book::{Answer, Controls, Noise, Refusal};
+use judging::{free_seat, numbers, size};
+use slow::{fill, place_of_pair, place_of_swap};
 use slow_rules::Rule;
 
-// The higher of two qubits: it is n or more if one of them is.
-fn higher(t0: u32, t1: u32) -> u32
-    ensures { (n : ℕ) → leb n result ≡ (leb n t0 || leb n t1) }
+// Tests 1 to 3: the size of the outputs, and then the inputs' with a qubit.
+fn judge(
+    sr: &[f64],
+    si: &[f64],
+    reals: &[f64],
+    imags: &[f64],
+    n: u32,
+    target: u32,
+) -> Result<(), Refusal>
+    ensures { Judges (into_tests n (shown sr si) (shown reals imags) ++ free_tests n target) result }
 {
-    if t0 < t1 { t1 } else { t0 }
+    size(reals, imags, n)?;
+    free_seat(sr, si, n, target)
 }
 
-// Amplitudes exchanged whose indices differ by exchanging the bits t0 and t1; a qubit with itself changes nothing.
+// Amplitudes exchanged whose indices differ by exchanging the bits t0 and t1; a qubit with itself changes nothing. Both are judged by the higher.
 pub fn swap_apply(
     sr: &[f64],
     si: &[f64],
@@ -31,12 +40,10 @@ pub fn swap_apply(
 ) -> Answer
     ensures { Does (into n (Gate.Swap t0 t1) (shown sr si) (before reals imags)) result (after reals imags) }
 {
-    let sized = size(reals, imags, n);
-    let answer = then(sized, free_seat(sr, si, n, higher(t0, t1)));
-    if let Answer::Taken = answer {
-        fill(Deed::Swap(t1), n, t0, Controls::of(0), sr, si, reals, imags);
-    }
-    answer
+    judge(sr, si, reals, imags, n, t0.max(t1))?;
+    let place = |i| place_of_swap(t0, t1, sr, si, i);
+    fill(place, n, reals, imags);
+    Ok(None)
 }
 
 // X without controls if draw <= prob, else nothing, and the outputs are the inputs; the answer is 1 if X ran, 0 if not.
@@ -51,17 +58,14 @@ pub fn bit_flip_noise_apply(
 ) -> Answer
     ensures { Does (into n (Gate.BitFlip target noise) (shown sr si) (before reals imags)) result (after reals imags) }
 {
-    let sized = size(reals, imags, n);
-    let seated = free_seat(sr, si, n, target);
-    let answer = then(then(sized, seated), numbers(&[noise.prob, noise.draw]));
-    if let Answer::Taken = answer {
-        let none = Controls::of(0);
-        if noise.draw <= noise.prob {
-            fill(Deed::Pairs(Rule::X), n, target, none, sr, si, reals, imags);
-            return Answer::Value(1);
-        }
-        fill(Deed::Nothing, n, target, none, sr, si, reals, imags);
-        return Answer::Value(0);
+    judge(sr, si, reals, imags, n, target)?;
+    numbers(&[noise.prob, noise.draw])?;
+    if noise.draw <= noise.prob {
+        let place = |i| place_of_pair(Rule::X, target, Controls::of(0), sr, si, i);
+        fill(place, n, reals, imags);
+        return Ok(Some(1));
     }
-    answer
+    reals.copy_from_slice(sr);
+    imags.copy_from_slice(si);
+    Ok(Some(0))
 }

@@ -1,2 +1,3 @@
--- What the rules of P, RZ and U ask of upper parts.
+-- What U's rule asks of upper parts, and that it is known in one way.
 pub mod Splits
+pub mod Unique

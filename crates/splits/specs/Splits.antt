@@ -1,18 +1,11 @@
--- The upper parts that the rules ask for. Definitions only. Assumes nothing.
+-- The upper parts that U's rule asks for. Definitions only. Assumes nothing.
 use Rattle.std.specs.Prelude.{Bool, true, ◌≡◌, Float}
 use Rattle.std.specs.Float.{binary64}
 use Rattle.std.specs.Float.Ieee.{ne, of_bits}
 use Rattle.exact.specs.Steps.{Halved, Under}
-use Rattle.abreast.specs.Split.{Split, Beside}
 use Rattle.book.specs.Gates.{−◌, entry}
-use Rattle.book.specs.declared.Angle.{Angle}
 use Rattle.book.specs.declared.Matrix.{Matrix}
 use Rattle.splits.specs.declared.Uppers.{Uppers}
-
-pub record RzSplit (angle : Angle) (h : Uppers) : Type 0 where
-  pub k : Beside angle.cosine angle.sine h.k
-  pub s : Beside angle.sine angle.cosine h.s
-  pub t : Split (− angle.sine) h.t
 
 -- an upper part that is there
 abbrev pub some : Float → Bool
@@ -43,6 +36,3 @@ pub record UWhole (m : Matrix) (h : Uppers) : Type 0 where
 
 abbrev pub USplit : Matrix → Uppers → Type 0
 USplit m h = some h.p ≡ true → UWhole m h
-
-abbrev pub PSplit : Angle → Float → Type 0
-PSplit angle = Beside angle.cosine angle.sine

@@ -1,33 +1,15 @@
-// What both products do at one place of two buffers: an amplitude read and written by value, a product added to a sum, and a row of sums begun.
+// What both products do at one place of two buffers: a product added to a sum, and a row of sums begun.
 // An inner room: its callers, dots and row_sums, are proved to stay within their buffers.
 #![tactic(auto)]
 
 ghost use Rattle.std.specs.Prelude.{◌≡◌, ◌+◌};
 ghost use Rattle.book.specs.Gates.{nought};
-ghost use Rattle.book.specs.Lent.{before, after, here, shown, shown_here};
+ghost use Rattle.book.specs.Lent.{before, after, here};
 ghost use Rattle.book.specs.Matrices.{add_product};
-ghost use Rattle.book.specs.State.{amplitude, at};
+ghost use Rattle.book.specs.State.{amplitude};
 ghost use Rattle.matrices.specs.Filled.{Holds, Filled};
 
 use book::Amplitude;
-
-pub fn read_at(reals: &[f64], imags: &[f64], i: usize) -> Amplitude
-    requires { Holds (i + 1) (shown_here reals imags) }
-    ensures { result ≡ at (shown reals imags) i }
-{
-    Amplitude {
-        re: reals[i],
-        im: imags[i],
-    }
-}
-
-pub fn write_at(reals: &mut [f64], imags: &mut [f64], i: usize, z: Amplitude)
-    requires { Holds (i + 1) (here reals imags) }
-    ensures { Filled i 1 (λ j. z) (before reals imags) (after reals imags) }
-{
-    reals[i] = z.re;
-    imags[i] = z.im;
-}
 
 // Product a·b added to a sum.
 pub fn add_product(sum: Amplitude, a: Amplitude, b: Amplitude) -> Amplitude
@@ -44,9 +26,6 @@ pub fn clear_row(reals: &mut [f64], imags: &mut [f64], from: usize, side: usize)
     requires { Holds (from + side) (here reals imags) }
     ensures { Filled from side (λ j. amplitude nought nought) (before reals imags) (after reals imags) }
 {
-    let mut j = 0;
-    while j < side {
-        write_at(reals, imags, from + j, Amplitude { re: 0.0, im: 0.0 });
-        j += 1;
-    }
+    reals[from..from + side].fill(0.0);
+    imags[from..from + side].fill(0.0);
 }

@@ -1,43 +1,54 @@
 // A gate's rule put to each chosen pair: judged once, then swept.
 #![tactic(auto)]
 
+ghost use Rattle.std.specs.Prelude.{◌≡◌};
 ghost use Rattle.book.specs.Answers.{Does};
-ghost use Rattle.book.specs.Lent.{before, after};
-ghost use Rattle.fed.specs.Named.{pair_gate};
+ghost use Rattle.book.specs.Lent.{before, after, here};
+ghost use Rattle.book.specs.State.{on_pairs};
+ghost use Rattle.pairs.specs.Gates.{pair_gate};
+ghost use Rattle.seated.specs.Judging.{Seated};
 
-use book::{Angle, Angles, Answer, Controls};
-use fed::{Fed, RY};
+use book::{Answer, Controls};
+use fed::{Fed, judge};
 use forms::sweep;
 use keys::by_keys;
+use rules::Rule;
 
-// A gate on pairs, from its number and what it is fed: RZ and U go key by key, the others run by run.
-pub fn on_pairs(
+// A rule on the pairs of a call that was judged: one that needs F goes key by key, any other run by run.
+#[inline]
+pub fn put_chosen<R: Rule>(
     reals: &mut [f64],
     imags: &mut [f64],
     n: u32,
     target: u32,
     controls: Controls,
-    rule: u32,
-    angle: Angle,
-    angles: Angles,
-) -> Answer
-    ensures { Does (pair_gate rule angle angles n target controls (before reals imags)) result (after reals imags) }
+    rule: R,
+)
+    requires { Seated n target controls (here reals imags) }
+    ensures { after reals imags ≡ on_pairs (R.rule rule) n target controls (before reals imags) }
 {
-    let seat = judging::seat(reals, imags, n, target, controls, fed::most(rule));
-    let answer = judging::then(seat, fed::own(rule, angle, angles));
-    if let Answer::Taken = answer {
-        let bit: usize = 1 << target;
-        let fixed = controls.ones as usize + bit;
-        if rule <= RY {
-            sweep(reals, imags, n, fixed, bit, 0, rule, angle);
-            return answer;
-        }
-        let fed = Fed {
-            number: rule,
-            angle,
-            angles,
-        };
-        by_keys(reals, imags, n, fixed, bit, 0, fed);
+    let bit: usize = 1 << target;
+    let fixed = controls.ones as usize + bit;
+    if R::NEEDS_F {
+        by_keys(reals, imags, n, fixed, bit, 0, rule);
+        return;
     }
-    answer
+    sweep(reals, imags, n, fixed, bit, 0, rule);
+}
+
+// A gate on pairs.
+#[inline]
+pub fn on_pairs<G: Rule + Fed>(
+    reals: &mut [f64],
+    imags: &mut [f64],
+    n: u32,
+    target: u32,
+    controls: Controls,
+    gate: G,
+) -> Answer
+    ensures { Does (pair_gate (G.rule gate) G.MOST (G.own gate) n target controls (before reals imags)) result (after reals imags) }
+{
+    judge(reals, imags, n, target, controls, gate)?;
+    put_chosen(reals, imags, n, target, controls, gate);
+    Ok(None)
 }

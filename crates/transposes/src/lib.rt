@@ -47,10 +47,7 @@ pub fn turn_all(reals: &mut [f64], imags: &mut [f64], side: usize)
     requires { (side ≤ 64) × Holds (side * side) (here reals imags) }
     ensures { Turned side (side * side) (before reals imags) (after reals imags) }
 {
-    let size = side * side;
-    let mut place = 0;
-    while place < size {
+    for place in 0..side * side {
         turn_at(reals, imags, place, side);
-        place += 1;
     }
 }

@@ -2,45 +2,23 @@
 // the crate products, and passed on here.
 #![tactic(auto)]
 
-ghost use Rattle.std.specs.Prelude.{◌++◌};
 ghost use Rattle.book.specs.Answers.{Does};
 ghost use Rattle.book.specs.Gates.{finite_tests};
-ghost use Rattle.book.specs.Lent.{before, after, shown};
-ghost use Rattle.book.specs.Matrices.{entries, numbers_of, matrix_tests, gate_matrix, conjugate_transpose};
-ghost use Rattle.seated.specs.Judging.{Judges, free_tests};
+ghost use Rattle.book.specs.Lent.{before, after};
+ghost use Rattle.book.specs.Matrices.{numbers_of, gate_matrix, conjugate_transpose};
+ghost use Rattle.seated.specs.Judging.{Judges};
 
 use book::{Answer, Matrix, Refusal};
 use crossings::fill_crossings;
-use matrices::{bad_length, bad_size};
+use matrices::{length, side};
 pub use products::{apply_unitary, multiply};
 use transposes::turn_all;
 
-// Tests 1 to 3 of a gate's matrix.
-fn seat(reals: &[f64], imags: &[f64], n: u32, target: u32) -> Answer
-    ensures { Judges (matrix_tests (entries n) n (shown reals imags) ++ free_tests n target) result }
-{
-    if bad_size(n) {
-        return Answer::Refused(Refusal::Size);
-    }
-    let side: usize = 1 << n;
-    if bad_length(reals, imags, side * side) {
-        return Answer::Refused(Refusal::Length);
-    }
-    if n <= target {
-        return Answer::Refused(Refusal::Qubit);
-    }
-    Answer::Taken
-}
-
 // Test 6 of the four amplitudes.
-fn own(matrix: Matrix) -> Answer
+fn own(matrix: Matrix) -> Result<(), Refusal>
     ensures { Judges (finite_tests (numbers_of matrix)) result }
 {
-    let entries = matrix.entries;
-    let a = entries[0];
-    let b = entries[1];
-    let c = entries[2];
-    let d = entries[3];
+    let [a, b, c, d] = matrix.entries;
     judging::numbers(&[a.re, a.im, b.re, b.im, c.re, c.im, d.re, d.im])
 }
 
@@ -54,25 +32,22 @@ pub fn from_single_qubit_gate(
 ) -> Answer
     ensures { Does (gate_matrix matrix n target (before reals imags)) result (after reals imags) }
 {
-    let seated = seat(reals, imags, n, target);
-    let answer = judging::then(seated, own(matrix));
-    if let Answer::Taken = answer {
-        fill_crossings(reals, imags, matrix, target, 1 << n);
+    let side = side(n)?;
+    length(reals, imags, side * side)?;
+    if n <= target {
+        return Err(Refusal::Qubit);
     }
-    answer
+    own(matrix)?;
+    fill_crossings(reals, imags, matrix, target, side);
+    Ok(None)
 }
 
 // Every imaginary part negated, then transposed, in place.
 pub fn conj_t(reals: &mut [f64], imags: &mut [f64], n: u32) -> Answer
     ensures { Does (conjugate_transpose n (before reals imags)) result (after reals imags) }
 {
-    if bad_size(n) {
-        return Answer::Refused(Refusal::Size);
-    }
-    let side: usize = 1 << n;
-    if bad_length(reals, imags, side * side) {
-        return Answer::Refused(Refusal::Length);
-    }
+    let side = side(n)?;
+    length(reals, imags, side * side)?;
     turn_all(reals, imags, side);
-    Answer::Taken
+    Ok(None)
 }

@@ -10,9 +10,7 @@ use lib.ListN.{length}
 use Rattle.book.specs.Answers.{Buffers}
 use Rattle.book.specs.State.{chosen}
 use Rattle.book.specs.declared.Amplitude.{Amplitude}
-use Rattle.book.specs.declared.Angle.{Angle}
 use Rattle.book.specs.declared.Controls.{Controls}
-use Rattle.fed.specs.Named.{upper_of}
 use Rattle.halves.specs.Halves.{picked, turned_at, HalfTurned}
 use Rattle.halves.proofs.Picks.{unchosen}
 use Rattle.seated.specs.Judging.{Seated}
@@ -25,15 +23,15 @@ use Rattle.uppers.specs.Uppers.{Blocked}
 use Rattle.uppers.proofs.Parts.{has_low, above, high_is, less_times, less, before_first, between, inner}
 
 -- what is known at a block's key; x is the value of `1 << target`
-pub record Among (fixed back upper : ℕ) (angle : Angle) (n t x : ℕ) (b₀ : Buffers) (key : ℕ) (b : Buffers) : Type 0 where
-  pub blocks : Blocks (turned_at fixed back upper angle) n t b₀ (key - (back - back % x)) b
+pub record Among (fixed back : ℕ) (upper : Amplitude → Amplitude) (n t x : ℕ) (b₀ : Buffers) (key : ℕ) (b : Buffers) : Type 0 where
+  pub blocks : Blocks (turned_at fixed back upper) n t b₀ (key - (back - back % x)) b
   pub number : ℕ
   pub here : key ≡ number * 2 ^ suc t
   pub on : Has (above t fixed) number
 
-module _ (upper : ℕ) (angle : Angle) {n t fixed back : ℕ} {b₀ : Buffers} (ok : Blocked n t fixed back b₀) where
+module _ (upper : Amplitude → Amplitude) {n t fixed back : ℕ} {b₀ : Buffers} (ok : Blocked n t fixed back b₀) where
   abbrev g : ℕ → Amplitude → Amplitude
-  g = turned_at fixed back upper angle
+  g = turned_at fixed back upper
 
   -- the place of a block's key
   base_is : (q : ℕ) → Has (above t fixed) q → q * 2 ^ suc t - (back - back % 2 ^ t) ≡ (q - above t back) * 2 ^ suc t
@@ -47,7 +45,7 @@ module _ (upper : ℕ) (angle : Angle) {n t fixed back : ℕ} {b₀ : Buffers} (
       let reach : above t back ≤ q = omega (arith, less t fixed back ok.free ok.off ok.among, key_ge (above t fixed) q on) in
       omega (arith, high_is t back ok.off, less_times q (above t back) (2 ^ suc t) reach)
 
-  pub among_reach : (x : ℕ) → x ≡ 2 ^ t → {key : ℕ} {b : Buffers} → Among fixed back upper angle n t x b₀ key b → back - back % x ≤ key
+  pub among_reach : (x : ℕ) → x ≡ 2 ^ t → {key : ℕ} {b : Buffers} → Among fixed back upper n t x b₀ key b → back - back % x ≤ key
   among_reach x is u = omega (arith, u.here, over_le u.number u.on, ap (λ (y : ℕ). back % y) is)
 
   pub back_le : back ≤ fixed
@@ -59,7 +57,7 @@ module _ (upper : ℕ) (angle : Angle) {n t fixed back : ℕ} {b₀ : Buffers} (
       subst (λ (y : ℕ). back % y ≤ fixed % y) (sym is) (key_ge (back % 2 ^ t) (fixed % 2 ^ t) (has_low t back fixed ok.among))
 
   abbrev Start : ℕ → Type 0
-  Start x = Among fixed back upper angle n t x b₀ (fixed - fixed % x) b₀
+  Start x = Among fixed back upper n t x b₀ (fixed - fixed % x) b₀
 
   start : Start (2 ^ t)
   start =
@@ -68,7 +66,7 @@ module _ (upper : ℕ) (angle : Angle) {n t fixed back : ℕ} {b₀ : Buffers} (
       ap (λ (k : ℕ). k - (back - back % 2 ^ t)) here ∙ base_is (above t fixed) (and_self (above t fixed)) in
       record {
         blocks = blocks_skip g n t ok.qubit b₀ _ (above t fixed - above t back) (blocks_start g n t ok.qubit b₀) base (omega arith)
-            (λ i x y. unchosen fixed back upper angle i (before_first t fixed back ok.free ok.off ok.among i (omega (arith, base))));
+            (λ i x y. unchosen fixed back upper i (before_first t fixed back ok.free ok.off ok.among i (omega (arith, base))));
         number = above t fixed;
         here = here;
         on = and_self (above t fixed);
@@ -82,9 +80,9 @@ module _ (upper : ℕ) (angle : Angle) {n t fixed back : ℕ} {b₀ : Buffers} (
     abbrev Step : ℕ → Type 0
     Step x =
         let a = key - (back - back % x) + x in
-        Among fixed back upper angle n t x b₀ key b → key - (back - back % x) < 2 ^ n
-        → HalfTurned (turned_at (fixed % x) (back % x) upper angle) (lent a (a + x - a) b) p
-        → Among fixed back upper angle n t x b₀ (bit_or (key + x + x) (fixed - fixed % x)) (returned a (a + x - a) b p)
+        Among fixed back upper n t x b₀ key b → key - (back - back % x) < 2 ^ n
+        → HalfTurned (turned_at (fixed % x) (back % x) upper) (lent a (a + x - a) b) p
+        → Among fixed back upper n t x b₀ (bit_or (key + x + x) (fixed - fixed % x)) (returned a (a + x - a) b p)
 
     step : Step (2 ^ t)
     step u l (mapped, same) =
@@ -97,11 +95,11 @@ module _ (upper : ℕ) (angle : Angle) {n t fixed back : ℕ} {b₀ : Buffers} (
         let is : base ≡ (q - above t back) * 2 ^ suc t = ap (λ (z : ℕ). z - over) u.here ∙ base_is q u.on in
         let room = blocks_room g n t ok.qubit b₀ u.blocks l in
         let long : length (lent a k b).reals ≡ k = lent_reals a k b (omega arith) (omega arith) in
-        let alike : (j : ℕ) → j < length (lent a k b).reals → (x : Amplitude) → turned_at (fixed % 2 ^ t) (back % 2 ^ t) upper angle j x ≡ g (a + j) x =
-        (λ j y x. ap (λ (c : Bool). cond c (upper_of upper angle x) x)
+        let alike : (j : ℕ) → j < length (lent a k b).reals → (x : Amplitude) → turned_at (fixed % 2 ^ t) (back % 2 ^ t) upper j x ≡ g (a + j) x =
+        (λ j y x. ap (λ (c : Bool). cond c (upper x) x)
         (inner t fixed back ok.free ok.off ok.among q j u.on (omega arith) ∙ ap (λ (z : ℕ). picked fixed back (z + 2 ^ t + j)) (sym is))) in
         let stepped = blocks_steps g n t ok.qubit b₀ u.blocks l (2 ^ t) refl reals imags p
-        (turn_same (turned_at (fixed % 2 ^ t) (back % 2 ^ t) upper angle) (λ j. g (a + j)) alike mapped, same) in
+        (turn_same (turned_at (fixed % 2 ^ t) (back % 2 ^ t) upper) (λ j. g (a + j)) alike mapped, same) in
         let end : key + 2 ^ t + 2 ^ t ≡ q * 2 ^ suc t + 2 ^ suc t = omega (arith, u.here, pow-suc 2 t) in
         let here : bit_or (key + 2 ^ t + 2 ^ t) (fixed - fixed % 2 ^ t) ≡ next * 2 ^ suc t =
         ap₂ bit_or end (high_is t fixed ok.free) ∙ next_block (suc t) q (above t fixed) in
@@ -111,7 +109,7 @@ module _ (upper : ℕ) (angle : Angle) {n t fixed back : ℕ} {b₀ : Buffers} (
         record {
           blocks = blocks_skip g n t ok.qubit b₀ _ (next - above t back) stepped then
               (omega (arith, or_ge (key + 2 ^ t + 2 ^ t) (fixed - fixed % 2 ^ t), u.here, is, over_le q u.on))
-              (λ i x y. unchosen fixed back upper angle i
+              (λ i x y. unchosen fixed back upper i
               (between t fixed back ok.free ok.off ok.among q i u.on (omega (arith, is, pow-suc 2 t)) (omega (arith, then))));
           number = next;
           here = here;

@@ -1,5 +1,5 @@
 -- `crossings::fill_crossings` meets its contract: one place more in each turn. Assumes nothing.
-use Prim.Native.Nat.{◌-◌, ◌/◌, ◌%◌, ◌≤◌}
+use Prim.Native.Nat.{◌/◌, ◌%◌}
 use Rattle.book.specs.Answers.{buffers}
 use Rattle.book.specs.Matrices.{crossing}
 use Rattle.matrices.specs.Filled.{Filled}
@@ -7,9 +7,4 @@ use Rattle.crossings.proofs.fill_crossings.Given as goal
 
 abbrev pub invariant-loop-place : goal.invariant-loop-place
 invariant-loop-place l =
-    (l.place ≤ l.size)
-    × Filled 0 l.place (λ k. crossing (record { entries = l.entries }) l.target (k / l.side) (k % l.side))
-    (buffers l.initial.reals l.initial.imags) (buffers l.reals l.imags)
-
-abbrev pub decreases-loop-place : goal.decreases-loop-place
-decreases-loop-place l = l.size - l.place
+    Filled 0 l.place (λ k. crossing l.matrix l.target (k / l.side) (k % l.side)) (buffers l.initial.reals l.initial.imags) (buffers l.reals l.imags)

@@ -4,4 +4,4 @@ use Rattle.matrices.proofs.Fills.{one_more}
 use Rattle.dots.proofs.fill_state.Goals as goal
 
 pub loop-row-preserved : goal.loop-row-preserved
-loop-row-preserved c = (omega arith, one_more (omega arith) c.loop-row.invariant.1 c.write_at.ensures c.row_dot-z.ensures)
+loop-row-preserved c = one_more (omega arith) c.loop-row.invariant c.write_at.ensures c.row_dot-z.ensures

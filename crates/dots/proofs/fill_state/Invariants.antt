@@ -1,5 +1,5 @@
 -- `dots::fill_state` meets its contract: one row more in each turn. Assumes nothing.
-use Prim.Native.Nat.{◌-◌, ◌*◌, ◌≤◌}
+use Prim.Native.Nat.{◌*◌}
 use Rattle.book.specs.Answers.{buffers}
 use Rattle.matrices.specs.Filled.{Filled}
 use Rattle.dots.specs.Dots.{state_dot}
@@ -7,9 +7,5 @@ use Rattle.dots.proofs.fill_state.Given as goal
 
 abbrev pub invariant-loop-row : goal.invariant-loop-row
 invariant-loop-row l =
-    (l.row ≤ l.side)
-    × Filled 0 l.row (λ r. state_dot (buffers l.ar l.ai) (r * l.side) (buffers l.br l.bi) l.side) (buffers l.initial.reals l.initial.imags)
+    Filled 0 l.row (λ r. state_dot (buffers l.ar l.ai) (r * l.side) (buffers l.br l.bi) l.side) (buffers l.initial.reals l.initial.imags)
     (buffers l.reals l.imags)
-
-abbrev pub decreases-loop-row : goal.decreases-loop-row
-decreases-loop-row l = l.side - l.row

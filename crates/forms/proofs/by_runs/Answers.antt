@@ -4,21 +4,21 @@ use Rattle.pairs.proofs.Whole as W
 use Rattle.forms.proofs.by_runs.Goals as goal
 
 pub overflow_sub-wide-2 : goal.overflow_sub-wide-2
-overflow_sub-wide-2 c = let pre = c.requires in W.low_fits pre.0 pre.1
+overflow_sub-wide-2 g c = let pre = c.requires in W.low_fits pre.0 pre.1
 
-pub short-requires : goal.short-requires
-short-requires c = let pre = c.requires in W.runs_as pre.0 pre.1 c.if-stride-eq1.true
+pub runs-requires : goal.runs-requires
+runs-requires g c = let pre = c.requires in W.runs_as pre.0 pre.1 c.if-stride-eq1.true
 
-pub dense-requires : goal.dense-requires
-dense-requires c = let pre = c.requires in W.runs_as pre.0 pre.1 c.if-stride-eq1.true
+pub runs-requires-then-stride-eq1 : goal.runs-requires-then-stride-eq1
+runs-requires-then-stride-eq1 g c = let pre = c.requires in W.runs_as pre.0 pre.1 c.if-stride-eq1.true
 
-pub neighbours-requires : goal.neighbours-requires
-neighbours-requires c = let pre = c.requires in W.runs_near pre.0 pre.1
+pub runs-requires-then-back0-eq1 : goal.runs-requires-then-back0-eq1
+runs-requires-then-back0-eq1 g c = let pre = c.requires in W.runs_near pre.0 pre.1
     c.if-stride-eq2.true c.if-back0-eq1.true
 
-pub strided-requires : goal.strided-requires
-strided-requires c = let pre = c.requires in W.runs_as pre.0 pre.1 refl
+pub runs-requires-2 : goal.runs-requires-2
+runs-requires-2 g c = let pre = c.requires in W.runs_as pre.0 pre.1 refl
 
 pub returns : goal.returns
-returns c = let pre = c.requires in
-    W.swept_as pre.0 pre.1 refl c.strided.ensures
+returns g c = let pre = c.requires in
+    W.swept_as pre.0 pre.1 refl c.runs-2.ensures

@@ -1,13 +1,12 @@
 -- `forms::sweep` meets its contract: one pair, read and written, or the runs. Assumes nothing.
 use native.Mathlib.Omega.{arith}
-use Rattle.rules.specs.Rules.{quick_of}
 use Rattle.pairs.proofs.Buffers.{stepped}
 use Rattle.pairs.proofs.Keys.{size_is}
 use Rattle.forms.proofs.Single.{single_swept}
 use Rattle.forms.proofs.sweep.Goals as goal
 
 pub returns-then-fixed-size : goal.returns-then-fixed-size
-returns-then-fixed-size c = single_swept c.requires (omega (arith, c.if-fixed-size.true, size_is c.requires)) (
-  stepped (quick_of c.args.rule c.args.angle) c.read_pair-p.ensures c.put_quick-q.ensures c.write_pair.ensures.0,
+returns-then-fixed-size g c = single_swept c.requires (omega (arith, c.if-fixed-size.true, size_is c.requires)) (
+  stepped (g.R.Rule.rule c.args.rule) c.read_pair-p.ensures c.put.ensures c.write_pair.ensures.0,
   c.write_pair.ensures.1,
 )

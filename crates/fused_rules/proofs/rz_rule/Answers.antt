@@ -10,8 +10,8 @@ use Rattle.fused_rules.proofs.rz_rule.Goals as goal
 pub returns-then-all_meet : goal.returns-then-all_meet
 returns-then-all_meet c =
     let small = c.all_modest.ensures c.if-all_modest.true in
-    let k_most = (c.requires.s c.if-h-2.true).1 in
-    let s_most = (c.requires.k c.if-h.true).1 in
+    let k_most = (c.args.h.s_split c.if-h-2.true).1 in
+    let s_most = (c.args.h.k_split c.if-h.true).1 in
     let met = c.all_meet.ensures c.if-all_meet.true in
     rw c.lefts.ensures (ap₂ pair
     (ap₂ amplitude

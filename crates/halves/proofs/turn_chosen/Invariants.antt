@@ -6,7 +6,7 @@ use Rattle.halves.proofs.Picks.{Picked}
 use Rattle.halves.proofs.turn_chosen.Given as goal
 
 abbrev pub invariant-loop-w : goal.invariant-loop-w
-invariant-loop-w l = Picked l.low l.back l.upper l.angle (buffers l.initial.reals l.initial.imags) l.w (buffers l.reals l.imags)
+invariant-loop-w g l = Picked l.low l.back (g.R.UpperRule.upper l.rule) (buffers l.initial.reals l.initial.imags) l.w (buffers l.reals l.imags)
 
 abbrev pub decreases-loop-w : goal.decreases-loop-w
-decreases-loop-w l = length l.initial.reals - (l.w - l.back)
+decreases-loop-w g l = length l.initial.reals - (l.w - l.back)

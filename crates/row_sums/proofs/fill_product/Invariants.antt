@@ -1,5 +1,5 @@
 -- `row_sums::fill_product` meets its contract: one row more in each turn. Assumes nothing.
-use Prim.Native.Nat.{◌-◌, ◌*◌, ◌≤◌}
+use Prim.Native.Nat.{◌*◌}
 use Rattle.book.specs.Answers.{buffers}
 use Rattle.matrices.specs.Filled.{Filled}
 use Rattle.row_sums.specs.Sums.{product_at}
@@ -7,8 +7,4 @@ use Rattle.row_sums.proofs.fill_product.Given as goal
 
 abbrev pub invariant-loop-row : goal.invariant-loop-row
 invariant-loop-row l =
-    (l.row ≤ l.side)
-    × Filled 0 (l.row * l.side) (product_at l.side (buffers l.ar l.ai) (buffers l.br l.bi)) (buffers l.initial.reals l.initial.imags) (buffers l.reals l.imags)
-
-abbrev pub decreases-loop-row : goal.decreases-loop-row
-decreases-loop-row l = l.side - l.row
+    Filled 0 (l.row * l.side) (product_at l.side (buffers l.ar l.ai) (buffers l.br l.bi)) (buffers l.initial.reals l.initial.imags) (buffers l.reals l.imags)

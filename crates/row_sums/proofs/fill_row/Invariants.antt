@@ -1,5 +1,4 @@
 -- `row_sums::fill_row` meets its contract: the row is filled again in each turn, with one inner index more. Assumes nothing.
-use Prim.Native.Nat.{◌-◌, ◌≤◌}
 use Rattle.book.specs.Answers.{buffers}
 use Rattle.matrices.specs.Filled.{Filled}
 use Rattle.row_sums.specs.Sums.{row_dot}
@@ -7,9 +6,5 @@ use Rattle.row_sums.proofs.fill_row.Given as goal
 
 abbrev pub invariant-loop-inner : goal.invariant-loop-inner
 invariant-loop-inner l =
-    (l.inner ≤ l.side)
-    × Filled l.from l.side (row_dot l.side l.from (buffers l.ar l.ai) (buffers l.br l.bi) l.inner) (buffers l.initial.reals l.initial.imags)
+    Filled l.from l.side (row_dot l.side l.from (buffers l.ar l.ai) (buffers l.br l.bi) l.inner) (buffers l.initial.reals l.initial.imags)
     (buffers l.reals l.imags)
-
-abbrev pub decreases-loop-inner : goal.decreases-loop-inner
-decreases-loop-inner l = l.side - l.inner

@@ -1,12 +1,11 @@
 -- `runs::by_twos` meets its contract, by the walk of two pairs at a turn. Assumes nothing.
 use Prim.Native.Nat.{◌-◌, ◌*◌}
 use Rattle.book.specs.Answers.{buffers}
-use Rattle.rules.specs.Rules.{quick_of}
 use Rattle.pairs.proofs.Spaced.{Walk}
 use Rattle.runs.proofs.by_twos.Given as goal
 
 abbrev pub invariant-loop-i : goal.invariant-loop-i
-invariant-loop-i l = Walk (quick_of l.rule l.angle) l.run l.d l.stride (l.stride * 2) (buffers l.initial.reals l.initial.imags) l.i (buffers l.reals l.imags)
+invariant-loop-i g l = Walk (g.R.Rule.rule l.rule) l.run l.d l.stride (l.stride * 2) (buffers l.initial.reals l.initial.imags) l.i (buffers l.reals l.imags)
 
 abbrev pub decreases-loop-i : goal.decreases-loop-i
-decreases-loop-i l = l.run - l.i
+decreases-loop-i g l = l.run - l.i

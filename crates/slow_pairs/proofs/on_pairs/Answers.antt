@@ -1,29 +1,36 @@
 -- `slow_pairs::on_pairs` meets its contract: judged, and then every index by the rule. Assumes nothing.
+use Prim.Native.Nat.{ℕ, ◌^◌, ◌<◌}
+use Rattle.std.proofs.Common.{rules}
+use Rattle.std.proofs.lemmas.Result.{err_from_is_err_and}
 use Rattle.book.specs.Lent.{here, shown_here}
-use Rattle.slow_pairs.proofs.Judged.{PairJudged, pair_judged, pair_kept, pair_ready, pair_done}
+use Rattle.slow.specs.Slow.{Reaches}
+use Rattle.slow_pairs.proofs.Judged.{outputs, pair_size, pair_seat, pair_own, pair_reaches, pair_done}
 use Rattle.slow_pairs.proofs.on_pairs.Goals as goal
+
+pub returns-in_err-size : goal.returns-in_err-size
+returns-in_err-size c =
+    let p = err_from_is_err_and c.from_residual.result c.from_residual.ensures.1 in
+    rw (p.1, p.2) (pair_size c.args.rule _ _ _ _ _ c.in_err-size.ensures)
+
+pub returns-in_err-seat : goal.returns-in_err-seat
+returns-in_err-seat c =
+    let p = err_from_is_err_and c.from_residual-in_err-seat.result c.from_residual-in_err-seat.ensures.1 in
+    rw (p.1, p.2) (pair_seat c.args.rule _ _ _ _ _ c.in_ok-size.ensures (rw c.most.ensures at c.in_err-seat.ensures))
+
+pub returns-in_err-judge : goal.returns-in_err-judge
+returns-in_err-judge c =
+    let p = err_from_is_err_and c.from_residual-in_err-judge.result c.from_residual-in_err-judge.ensures.1 in
+    rw (p.1, p.2)
+    (pair_own c.args.rule _ _ _ _ _ c.in_ok-size.ensures (rw c.most.ensures at c.in_ok-seat.ensures) c.in_err-judge.ensures)
 
 pub fill-requires : goal.fill-requires
 fill-requires c =
     let a = c.args in
-    let judged : PairJudged a.rule a.n a.target a.controls (shown_here a.sr a.si) (here a.reals a.imags) c.then-answer.result =
-    pair_judged c.size-sized.ensures (rw c.most.ensures at c.seat-seated.ensures) c.then.ensures
-    c.own.ensures c.then-answer.ensures in
-    let ready = pair_ready judged c.in-Taken.is in
-    record { inputs = ready.0; outputs = ready.1 }
+    let reach : (i : ℕ) → i < 2 ^ a.n → Reaches a.target a.target (shown_here a.sr a.si) i =
+    pair_reaches a.rule _ _ a.controls (shown_here a.sr a.si) (here a.reals a.imags) c.in_ok-size.ensures (rw c.most.ensures at c.in_ok-seat.ensures) c.in_ok-judge.ensures in
+    record { outputs = outputs _ _ c.in_ok-size.ensures; each = search (rules, reach) }
 
-pub returns-in-Taken : goal.returns-in-Taken
-returns-in-Taken c =
-    let a = c.args in
-    let judged : PairJudged a.rule a.n a.target a.controls (shown_here a.sr a.si) (here a.reals a.imags) c.then-answer.result =
-    pair_judged c.size-sized.ensures (rw c.most.ensures at c.seat-seated.ensures) c.then.ensures
-    c.own.ensures c.then-answer.ensures in
-    pair_done judged c.in-Taken.is c.fill.ensures
-
-pub returns-in_default : goal.returns-in_default
-returns-in_default c =
-    let a = c.args in
-    let judged : PairJudged a.rule a.n a.target a.controls (shown_here a.sr a.si) (here a.reals a.imags) c.then-answer.result =
-    pair_judged c.size-sized.ensures (rw c.most.ensures at c.seat-seated.ensures) c.then.ensures
-    c.own.ensures c.then-answer.ensures in
-    pair_kept judged c.in_default.not-Taken
+pub returns : goal.returns
+returns c =
+    pair_done c.args.rule _ _ c.args.controls _ _ c.in_ok-size.ensures (rw c.most.ensures at c.in_ok-seat.ensures) c.in_ok-judge.ensures c.fill.ensures.size
+    (λ i h. let k = c.fill.ensures.places i h in search rules)

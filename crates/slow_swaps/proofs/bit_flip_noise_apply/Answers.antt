@@ -1,41 +1,50 @@
--- `slow_swaps::bit_flip_noise_apply` meets its contract: judged with its two numbers, then X at every index, or every index as it is. Assumes nothing.
+-- `slow_swaps::bit_flip_noise_apply` meets its contract: judged with its two numbers, then X at every index, or the inputs copied. Assumes nothing.
+use Prim.Native.Nat.{ℕ, ◌^◌, ◌<◌}
+use mathlib.Core.Path.{sym, ◌∙◌}
+use Rattle.std.proofs.Common.{rules}
+use Rattle.std.proofs.lemmas.Result.{err_from_is_err_and}
 use Rattle.book.specs.Lent.{here, shown_here}
-use Rattle.slow_swaps.proofs.Judged.{FlipJudged, flip_judged, flip_kept, flip_ready, flip_ran, flip_not}
+use Rattle.slow.specs.Slow.{Reaches, Sized}
+use Rattle.slow_swaps.proofs.Judged.{outputs, inputs, flip_kept, flip_number, flip_reaches, flip_ran, flip_not}
 use Rattle.slow_swaps.proofs.bit_flip_noise_apply.Goals as goal
+
+pub returns-in_err-judge : goal.returns-in_err-judge
+returns-in_err-judge c =
+    let p = err_from_is_err_and c.from_residual.result c.from_residual.ensures.1 in
+    rw (p.1, p.2) (flip_kept _ _ c.args.noise _ _ c.in_err-judge.ensures)
+
+pub returns-in_err-numbers : goal.returns-in_err-numbers
+returns-in_err-numbers c =
+    let p = err_from_is_err_and c.from_residual-in_err-numbers.result c.from_residual-in_err-numbers.ensures.1 in
+    rw (p.1, p.2) (flip_number _ _ c.args.noise _ _ c.in_ok-judge.ensures c.in_err-numbers.ensures)
 
 pub fill-requires : goal.fill-requires
 fill-requires c =
     let a = c.args in
-    let judged : FlipJudged a.n a.target a.noise (shown_here a.sr a.si) (here a.reals a.imags) c.then-answer.result =
-    flip_judged c.size-sized.ensures c.free_seat-seated.ensures c.then.ensures c.numbers.ensures c.then-answer.ensures in
-    let ready = flip_ready judged c.in-Taken.is in
-    record { inputs = ready.0; outputs = ready.1 }
+    let reach : (i : ℕ) → i < 2 ^ a.n → Reaches a.target a.target (shown_here a.sr a.si) i =
+    flip_reaches _ _ a.noise (shown_here a.sr a.si) (here a.reals a.imags) c.in_ok-judge.ensures in
+    record { outputs = outputs _ _ (shown_here a.sr a.si) _ c.in_ok-judge.ensures; each = search (rules, reach) }
 
 pub returns-then-noise : goal.returns-then-noise
 returns-then-noise c =
-    let a = c.args in
-    let judged : FlipJudged a.n a.target a.noise (shown_here a.sr a.si) (here a.reals a.imags) c.then-answer.result =
-    flip_judged c.size-sized.ensures c.free_seat-seated.ensures c.then.ensures c.numbers.ensures c.then-answer.ensures in
-    flip_ran judged c.in-Taken.is c.if-noise.true (rw c.of-none.ensures at c.fill.ensures)
+    flip_ran _ _ c.args.noise _ _ c.in_ok-judge.ensures c.in_ok-numbers.ensures c.if-noise.true c.fill.ensures.size
+    (λ i h. let k = c.fill.ensures.places i h in search rules)
 
-pub fill-requires-in-Taken : goal.fill-requires-in-Taken
-fill-requires-in-Taken c =
+pub copy_from_slice-requires : goal.copy_from_slice-requires
+copy_from_slice-requires c =
     let a = c.args in
-    let judged : FlipJudged a.n a.target a.noise (shown_here a.sr a.si) (here a.reals a.imags) c.then-answer.result =
-    flip_judged c.size-sized.ensures c.free_seat-seated.ensures c.then.ensures c.numbers.ensures c.then-answer.ensures in
-    let ready = flip_ready judged c.in-Taken.is in
-    record { inputs = ready.0; outputs = ready.1 }
+    let i : Sized a.n (shown_here a.sr a.si) = inputs _ _ _ (here a.reals a.imags) c.in_ok-judge.ensures in
+    let o : Sized a.n (here a.reals a.imags) = outputs _ _ (shown_here a.sr a.si) _ c.in_ok-judge.ensures in
+    o.reals ∙ sym i.reals
 
-pub returns-in-Taken : goal.returns-in-Taken
-returns-in-Taken c =
+pub copy_from_slice-requires-2 : goal.copy_from_slice-requires-2
+copy_from_slice-requires-2 c =
     let a = c.args in
-    let judged : FlipJudged a.n a.target a.noise (shown_here a.sr a.si) (here a.reals a.imags) c.then-answer.result =
-    flip_judged c.size-sized.ensures c.free_seat-seated.ensures c.then.ensures c.numbers.ensures c.then-answer.ensures in
-    flip_not judged c.in-Taken.is c.if-noise.false c.fill-in-Taken.ensures
+    let i : Sized a.n (shown_here a.sr a.si) = inputs _ _ _ (here a.reals a.imags) c.in_ok-judge.ensures in
+    let o : Sized a.n (here a.reals a.imags) = outputs _ _ (shown_here a.sr a.si) _ c.in_ok-judge.ensures in
+    o.imags ∙ sym i.imags
 
 pub returns : goal.returns
 returns c =
-    let a = c.args in
-    let judged : FlipJudged a.n a.target a.noise (shown_here a.sr a.si) (here a.reals a.imags) c.then-answer.result =
-    flip_judged c.size-sized.ensures c.free_seat-seated.ensures c.then.ensures c.numbers.ensures c.then-answer.ensures in
-    flip_kept judged c.in_default.not-Taken
+    rw (c.copy_from_slice.ensures.after, c.copy_from_slice-2.ensures.after)
+    (flip_not _ _ c.args.noise _ _ c.in_ok-judge.ensures c.in_ok-numbers.ensures c.if-noise.false)

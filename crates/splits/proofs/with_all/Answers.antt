@@ -8,22 +8,6 @@ pub returns-then-q : goal.returns-then-q
 unfolding eq ne of_bits
 returns-then-q c = λ h. absurd (true≢false (sym h))
 
-pub returns-then-u : goal.returns-then-u
-unfolding eq ne of_bits
-returns-then-u c = λ h. absurd (true≢false (sym h))
-
-pub returns-then-v : goal.returns-then-v
-unfolding eq ne of_bits
-returns-then-v c = λ h. absurd (true≢false (sym h))
-
-pub returns-then-w : goal.returns-then-w
-unfolding eq ne of_bits
-returns-then-w c = λ h. absurd (true≢false (sym h))
-
-pub returns-then-e : goal.returns-then-e
-unfolding eq ne of_bits
-returns-then-e c = λ h. absurd (true≢false (sym h))
-
 pub returns : goal.returns
 unfolding eq ne of_bits
 returns c = λ h. record {

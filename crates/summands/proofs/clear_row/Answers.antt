@@ -1,9 +1,6 @@
--- `summands::clear_row` meets its contract: one place more is filled in each turn. Assumes nothing.
-use mathlib.Core.Path.{refl}
-use native.Mathlib.Omega.{arith}
-use Rattle.matrices.proofs.Fills.{zero_is}
-use Rattle.matrices.proofs.Fills.{one_more}
+-- `summands::clear_row` meets its contract: both stretches are filled with 0.0. Assumes nothing.
+use Rattle.summands.proofs.Rows.{row_cleared}
 use Rattle.summands.proofs.clear_row.Goals as goal
 
-pub loop-j-preserved : goal.loop-j-preserved
-loop-j-preserved c = (omega arith, one_more refl c.loop-j.invariant.1 c.write_at.ensures zero_is)
+pub returns : goal.returns
+returns c = row_cleared _ _ _ _ c.requires (c.fill.ensures.after (λ y e. e)) (c.fill-2.ensures.after (λ y e. e))

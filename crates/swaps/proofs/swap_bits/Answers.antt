@@ -3,4 +3,4 @@ use Rattle.pairs.proofs.Swap.{swap_either}
 use Rattle.swaps.proofs.swap_bits.Goals as goal
 
 pub returns-then-t1-t0 : goal.returns-then-t1-t0
-returns-then-t1-t0 c = swap_either _ _ _ _ c.exchange.ensures
+returns-then-t1-t0 c = swap_either _ _ _ _ c.swap_upwards.ensures

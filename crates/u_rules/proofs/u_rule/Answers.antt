@@ -46,7 +46,7 @@ module _ (j : ℕ) (x k : Float) (r : Sides) {z w : Float} (around : Around r x 
 pub returns-then-all_meet-3 : goal.returns-then-all_meet-3
 returns-then-all_meet-3 c =
     let small = c.all_modest.ensures c.if-all_modest.true in
-    let h = c.requires c.if-h.true in
+    let h = c.args.gate.split c.if-h.true in
     let m = c.all_meet.ensures c.if-all_meet.true in
     let n = c.all_meet-then-all_meet.ensures c.if-all_meet-2.true in
     let o = c.all_meet-then-all_meet-2.ensures c.if-all_meet-3.true in

@@ -1,43 +1,28 @@
--- `unitaries::from_single_qubit_gate` meets its contract: judged, and then the loop. Assumes nothing.
-use Prim.Native.Nat.{ℕ}
-use mathlib.Core.List.{◌++◌}
-use Rattle.book.specs.Answers.{Buffers}
-use Rattle.book.specs.Lent.{here}
-use Rattle.book.specs.Matrices.{entries, matrix_tests}
-use Rattle.book.specs.declared.Answer.{Answer}
-use Rattle.book.specs.declared.Matrix.{Matrix}
-use Rattle.seated.specs.Judging.{Judges}
-use Rattle.unitaries.proofs.Judged.{work, gate_judged, gate_kept, shift_ok, ready, gate_filled}
+-- `unitaries::from_single_qubit_gate` meets its contract: its tests in order, and then the loop. Assumes nothing.
+use Rattle.std.proofs.lemmas.Result.{err_from_is_err_and}
+use Rattle.unitaries.proofs.Judged.{gate_size, gate_length, gate_far, gate_number, gate_ready, gate_filled}
 use Rattle.unitaries.proofs.from_single_qubit_gate.Goals as goal
 
--- what the test of the seat and that of the matrix say of the answer
-abbrev Told : Matrix → ℕ → ℕ → Buffers → Answer → Type 0
-Told m n target b r = Judges (matrix_tests (entries n) n b ++ (work m n target b).tests) r
+pub returns-in_err-side : goal.returns-in_err-side
+returns-in_err-side c =
+    let p = err_from_is_err_and c.from_residual.result c.from_residual.ensures.1 in
+    rw (p.1, p.2) (gate_size c.args.matrix _ _ _ c.in_err-side.ensures)
 
-pub overflow_shl-n : goal.overflow_shl-n
-overflow_shl-n c =
-    let a = c.args in
-    let told : Told a.matrix a.n a.target (here a.reals a.imags) c.then-answer.result =
-    gate_judged a.matrix _ _ _ c.seat-seated.ensures c.own.ensures c.then-answer.ensures in
-    shift_ok a.matrix _ _ _ told c.in-Taken.is
+pub returns-in_err-length : goal.returns-in_err-length
+returns-in_err-length c =
+    let p = err_from_is_err_and c.from_residual-in_err-length.result c.from_residual-in_err-length.ensures.1 in
+    rw (p.1, p.2) (gate_length c.args.matrix _ _ _ c.in_ok-side.ensures c.in_err-length.ensures)
+
+pub returns-then-n-target : goal.returns-then-n-target
+returns-then-n-target c = gate_far c.args.matrix _ _ _ c.in_ok-side.ensures c.in_ok-length.ensures c.if-n-target.true
+
+pub returns-in_err-own : goal.returns-in_err-own
+returns-in_err-own c =
+    let p = err_from_is_err_and c.from_residual-in_err-own.result c.from_residual-in_err-own.ensures.1 in
+    rw (p.1, p.2) (gate_number c.args.matrix _ _ _ c.in_ok-side.ensures c.in_ok-length.ensures c.if-n-target.false c.in_err-own.ensures)
 
 pub fill_crossings-requires : goal.fill_crossings-requires
-fill_crossings-requires c =
-    let a = c.args in
-    let told : Told a.matrix a.n a.target (here a.reals a.imags) c.then-answer.result =
-    gate_judged a.matrix _ _ _ c.seat-seated.ensures c.own.ensures c.then-answer.ensures in
-    ready a.matrix _ _ _ told c.in-Taken.is
+fill_crossings-requires c = gate_ready c.args.matrix _ _ _ c.in_ok-side.ensures c.in_ok-length.ensures c.if-n-target.false
 
-pub returns-in-Taken : goal.returns-in-Taken
-returns-in-Taken c =
-    let a = c.args in
-    let told : Told a.matrix a.n a.target (here a.reals a.imags) c.then-answer.result =
-    gate_judged a.matrix _ _ _ c.seat-seated.ensures c.own.ensures c.then-answer.ensures in
-    gate_filled a.matrix _ _ _ told c.in-Taken.is c.fill_crossings.ensures
-
-pub returns-in_default : goal.returns-in_default
-returns-in_default c =
-    let a = c.args in
-    let told : Told a.matrix a.n a.target (here a.reals a.imags) c.then-answer.result =
-    gate_judged a.matrix _ _ _ c.seat-seated.ensures c.own.ensures c.then-answer.ensures in
-    gate_kept a.matrix _ _ _ told c.in_default.not-Taken
+pub returns : goal.returns
+returns c = gate_filled c.args.matrix _ _ _ c.in_ok-side.ensures c.in_ok-length.ensures c.if-n-target.false c.in_ok-own.ensures c.fill_crossings.ensures

@@ -6,7 +6,7 @@ use native.Mathlib.Omega.{arith}
 use lib.ListN.{length, length-take, length-drop}
 use lib.Pow.{pow_pos}
 use Rattle.book.specs.Answers.{Buffers}
-use Rattle.book.specs.declared.Angle.{Angle}
+use Rattle.book.specs.declared.Amplitude.{Amplitude}
 use Rattle.seated.proofs.Shifts.{shl, shl_is, pow_le}
 use Rattle.pairs.proofs.Bits.{or_ge}
 use Rattle.pairs.proofs.Halves.{blocks_room, blocks_end}
@@ -29,9 +29,9 @@ record Turn (n t key over : ℕ) (b : Buffers) : Type 0 where
   reach : over ≤ key
   back : over < 2 ^ n
 
-turn : {fixed back upper : ℕ} {angle : Angle} {n t key : ℕ} {b₀ b : Buffers} → Blocked n t fixed back b₀
-    → Among fixed back upper angle n t (shl t) b₀ key b → key - (back - back % shl t) < shl n → Turn n t key (back - back % shl t) b
-turn {fixed} {back} {upper} {angle} {n} {t} {key} {b₀} {b} ok among less =
+turn : {fixed back : ℕ} {upper : Amplitude → Amplitude} {n t key : ℕ} {b₀ b : Buffers} → Blocked n t fixed back b₀
+    → Among fixed back upper n t (shl t) b₀ key b → key - (back - back % shl t) < shl n → Turn n t key (back - back % shl t) b
+turn {fixed} {back} {upper} {n} {t} {key} {b₀} {b} ok among less =
     let is : shl t ≡ 2 ^ t = bit_is ok in
     let inside : key - (back - back % shl t) < 2 ^ n = omega (arith, less, shl_is n ok.fits) in
     record {
@@ -42,44 +42,44 @@ turn {fixed} {back} {upper} {angle} {n} {t} {key} {b₀} {b} ok among less =
       small = pow_le _ 24 ok.fits;
       reals = among.blocks.same.reals ∙ ok.reals;
       imags = among.blocks.same.imags ∙ ok.imags;
-      reach = among_reach _ _ ok _ is among;
-      back = omega (arith, back_le upper angle ok, ok.below);
+      reach = among_reach _ ok _ is among;
+      back = omega (arith, back_le upper ok, ok.below);
     }
 
 pub loop-key-init : goal.loop-key-init
-loop-key-init c = among_start _ _ c.requires _ (bit_is c.requires)
+loop-key-init g c = among_start _ c.requires _ (bit_is c.requires)
 
 pub overflow_sub-key : goal.overflow_sub-key
-overflow_sub-key c = among_reach _ _ c.requires _ (bit_is c.requires) c.loop-key.invariant
+overflow_sub-key g c = among_reach _ c.requires _ (bit_is c.requires) c.loop-key.invariant
 
 pub overflow_sub-a : goal.overflow_sub-a
-overflow_sub-a c = (turn c.requires c.loop-key.invariant c.loop-key-test.true).reach
+overflow_sub-a g c = (turn c.requires c.loop-key.invariant c.loop-key-test.true).reach
 
 pub slice_bounds-turn_half-end : goal.slice_bounds-turn_half-end
-slice_bounds-turn_half-end c = let q = turn c.requires c.loop-key.invariant c.loop-key-test.true in omega arith
+slice_bounds-turn_half-end g c = let q = turn c.requires c.loop-key.invariant c.loop-key-test.true in omega arith
 
 pub turn_half-requires : goal.turn_half-requires
-turn_half-requires c =
+turn_half-requires g c =
     let q = turn c.requires c.loop-key.invariant c.loop-key-test.true in
     let ok = c.requires in
     let args = c.args in
     record {
       equal = simp (length-take, length-drop, q.reals, q.imags);
-      reach = under_le args.upper args.angle ok _ q.is;
+      reach = under_le (g.R.UpperRule.upper args.rule) ok _ q.is;
       small = omega (arith, mod-le args.fixed (shl args.target), ok.below, q.small);
     }
 
 pub loop-key-smaller : goal.loop-key-smaller
-loop-key-smaller c =
+loop-key-smaller g c =
     let q = turn c.requires c.loop-key.invariant c.loop-key-test.true in
     let bit = shl c.args.target in
     let fixed = c.args.fixed in
     omega (arith, c.loop-key-test.true, q, or_ge (c.loop-key.key + bit + bit) (fixed - fixed % bit))
 
 pub loop-key-preserved : goal.loop-key-preserved
-loop-key-preserved c =
+loop-key-preserved g c =
     let q = turn c.requires c.loop-key.invariant c.loop-key-test.true in
-    among_step _ _ c.requires _ _ q.reals q.imags _ _ q.is c.loop-key.invariant q.inside c.turn_half.ensures
+    among_step _ c.requires _ _ q.reals q.imags _ _ q.is c.loop-key.invariant q.inside c.turn_half.ensures
 
 pub returns : goal.returns
-returns c = blocks_end _ _ _ _ c.loop-key.invariant.blocks (omega (arith, c.loop-key-test.false, shl_is c.args.n c.requires.fits))
+returns g c = blocks_end _ _ _ _ c.loop-key.invariant.blocks (omega (arith, c.loop-key-test.false, shl_is c.args.n c.requires.fits))

@@ -5,7 +5,7 @@ use Rattle.uppers.proofs.Skips.{Among}
 use Rattle.uppers.proofs.turn_blocks.Given as goal
 
 abbrev pub invariant-loop-key : goal.invariant-loop-key
-invariant-loop-key l = Among l.fixed l.back l.upper l.angle l.n l.target l.bit (buffers l.initial.reals l.initial.imags) l.key (buffers l.reals l.imags)
+invariant-loop-key g l = Among l.fixed l.back (g.R.UpperRule.upper l.rule) l.n l.target l.bit (buffers l.initial.reals l.initial.imags) l.key (buffers l.reals l.imags)
 
 abbrev pub decreases-loop-key : goal.decreases-loop-key
-decreases-loop-key l = l.size - (l.key - l.over)
+decreases-loop-key g l = l.size - (l.key - l.over)

@@ -1,2 +1,0 @@
--- The rules and the uppers by number.
-pub mod Numbers

@@ -1,2 +1,0 @@
--- Which gate of 01 a value of Rule or Upper names.
-pub mod Named
