@@ -1,8 +1,8 @@
 // A stream fed whole, and then in every other way.
 ghost use Rattle.std.specs.Prelude.{◌≡◌, ◌≤◌, length};
 
-use crate::compare::{floats_differ, forms_differ, numbers_differ};
-use act::FAST;
+use crate::compare::{floats_differ, forms_differ};
+use act::Fast;
 use feeding::Feed;
 use sessions::Session;
 
@@ -49,8 +49,7 @@ fn fed(
     requires imags_len { length imags.old ≡ 2048 }
 {
     let size = places(session.n);
-    Feed::start(session).take_all(
-        FAST,
+    Feed::start(session).take_all::<Fast>(
         frames,
         lengths,
         answers,
@@ -82,20 +81,18 @@ fn differs(
         &mut other_imags,
     );
     let size = places(session.n);
-    let states = floats_differ(reals, &other_reals, size)
-        | floats_differ(imags, &other_imags, size);
-    (forms_differ(whole, other) | numbers_differ(answers, &other_answers) | states) as u64
+    let differ = forms_differ(whole, other)
+        || *answers != other_answers
+        || floats_differ(&reals[..size], &other_reals[..size])
+        || floats_differ(&imags[..size], &other_imags[..size]);
+    u64::from(differ)
 }
 
 fn told(answers: &[u32; 256]) -> usize {
-    let mut i: usize = 0;
-    while i < MOST_ANSWERS {
-        if answers[i] == NO_ANSWER {
-            return i;
-        }
-        i += 1;
-    }
-    i
+    answers
+        .iter()
+        .position(|answer| *answer == NO_ANSWER)
+        .unwrap_or(MOST_ANSWERS)
 }
 
 // In two, at every place, the first and the last among them.
@@ -108,12 +105,10 @@ fn cut_in_two(
     imags: &[f64; 2048],
 ) -> u64 {
     let mut differ: u64 = 0;
-    let mut at: usize = 0;
-    while at <= frames.len() {
+    for at in 0..=frames.len() {
         let lengths = [at, frames.len() - at];
         let other = differs(session, frames, &lengths, whole, answers, reals, imags);
-        differ = std::num::wrapping_add_u64(differ, other);
-        at += 1;
+        differ = differ.wrapping_add(other);
     }
     differ
 }
@@ -130,8 +125,8 @@ pub(crate) fn take_apart(session: Session, frames: &[u8]) -> Tally {
     let last = differs(session, frames, &bytes, whole, &answers, &reals, &imags);
     let differ = cut_in_two(session, frames, whole, &answers, &reals, &imags);
     Tally {
-        cuts: std::num::wrapping_add_u64(frames.len() as u64, 1),
+        cuts: (frames.len() as u64).wrapping_add(1),
         answers: told(&answers),
-        differ: std::num::wrapping_add_u64(differ, last),
+        differ: differ.wrapping_add(last),
     }
 }

@@ -8,7 +8,6 @@ mod apart;
 mod compare;
 
 use apart::take_apart;
-use headers::Header;
 use reading::read_full;
 use sessions::Session;
 use std::rt::Files;
@@ -36,14 +35,13 @@ fn report(rt: &impl Print, name: &str, session: Session, frames: &[u8]) -> io::R
 }
 
 fn run_input(rt: &impl Print, name: &str, input: &[u8]) -> io::Result<()> {
-    let header = headers::read_header(input);
-    let Header::Good(n, number) = header else {
+    let Some(header) = headers::read_header(input) else {
         return say(rt, name, ": BAD HEADER\n");
     };
     report(
         rt,
         name,
-        Session::fresh(n, number),
+        Session::fresh(header.n, header.session),
         headers::behind_header(input),
     )
 }
