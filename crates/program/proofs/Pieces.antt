@@ -1,6 +1,6 @@
 -- The laws of a loop that prints a piece, and of one that prints piece after piece: the lines of answers in two parts are those of the first, and then those of
 -- the second with the numbers that follow; a u64 counts them, so the numbers are added modulo 2 ^ 64. Assumes nothing.
-use Rattle.std.proofs.Common.{◌≡◌, ℕ, suc, ◌+◌, ◌-◌, ◌%◌, ◌^◌, ◌<◌, ◌≤◌, min, List, [], ◌∷◌}
+use Rattle.std.proofs.Common.{◌≡◌, ℕ, suc, ◌+◌, ◌%◌, ◌^◌, ◌<◌, ◌≤◌, min, List, [], ◌∷◌}
 use Rattle.std.proofs.Common.{◌++◌, length, drop, sym, refl, ap, ◌∙◌, append_assoc, mod-eq_of_lt, arith, length-append}
 use native.Mathlib.Nat.{mod-add-mod}
 use Rattle.book.specs.Answers.{Buffers}
