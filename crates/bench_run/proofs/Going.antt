@@ -1,6 +1,6 @@
 -- The laws of the program's loop: turns add up, and behind the last stands what the frames make; behind a header, what the whole input makes. Assumes nothing.
-use Rattle.std.proofs.Common.{◌≡◌, Result, Ok, Err, IfOk, OnOk, OnErr, is_ok, length-take, ℕ, ◌+◌, ◌%◌, ◌^◌, ◌<◌, ◌≤◌, Bool, true}
-use Rattle.std.proofs.Common.{false, List, [], ◌++◌, length, take, drop, sym, refl, ap, ◌∙◌, subst, arith, mod-eq_of_lt, length-append, take_at, drop_at}
+use Rattle.std.proofs.Common.{◌≡◌, Result, Ok, Err, IfOk, OnOk, OnErr, length-take, ℕ, ◌+◌, ◌%◌, ◌^◌, ◌<◌, ◌≤◌}
+use Rattle.std.proofs.Common.{List, [], ◌++◌, length, take, drop, sym, refl, ap, ◌∙◌, subst, arith, mod-eq_of_lt, length-append, take_at, drop_at}
 use mathlib.Core.Path.{ap₂}
 use Rattle.std.specs.Prelude.{Option, Some, None, option_map}
 use Rattle.std.specs.Result.{result_unwrap_or}

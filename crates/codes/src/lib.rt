@@ -38,6 +38,7 @@ fn read_flip(bytes: &[u8], target: u8) -> Option<Gate>
 }
 
 // The fields behind 04, by code.
+// Stays: a record's code is a number among its bytes, and here it becomes a gate.
 pub fn read_gate(bytes: &[u8], code: u32, target: u8) -> Option<Gate>
     ensures { result ≡ read_row (row_of code) target bytes.now }
 {

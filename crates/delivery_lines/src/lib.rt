@@ -10,6 +10,7 @@ use book::{Answer, Reply};
 use words::{add, add_number};
 
 // What a call answers, in front of the count.
+// Stays: a place in the buffer, as in words.
 fn add_answer(out: &mut [u8], at: usize, answer: Answer) -> usize
     requires { at + 29 ≤ length out.old }
     ensures { Added (answering (says answer)) 29 out.old at result out.new }

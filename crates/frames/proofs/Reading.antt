@@ -1,11 +1,10 @@
--- The number that two bytes are, and a byte of two parts. Assumes nothing.
-use Prim.Native.Nat.{ℕ, ◌+◌, ◌-◌, ◌*◌, ◌≤◌, ◌<◌}
+-- The number that two bytes are. Assumes nothing.
+use Prim.Native.Nat.{ℕ, ◌+◌, ◌*◌, ◌≤◌}
 use native.Mathlib.Nat.{add-zero, zero-add}
 use native.Mathlib.Omega.{arith}
 use mathlib.Core.Path.{◌≡◌, ap, ◌∙◌}
-use mathlib.Core.List.{List, ◌++◌}
-use lib.ListN.{length, take, drop, get_or, get_or-append}
-use lib.Seq.{get_or-append-add}
+use mathlib.Core.List.{List}
+use lib.ListN.{length, take, drop, get_or}
 use Rattle.book.specs.Records.{number}
 use Rattle.wire.proofs.Numbers.{number_more}
 
@@ -16,14 +15,3 @@ module _ (s : List ℕ) where
       let same : get_or s (at + 0) 0 ≡ get_or s at 0 = ap (λ (i : ℕ). get_or s i 0) (add-zero at) in
       let second : number (take 2 (drop at s)) ≡ number (take 1 (drop at s)) * 256 + get_or s (at + 1) 0 = number_more s at 1 (omega arith) in
       omega arith
-
--- ---- a byte of two parts
-
-module _ (first second : List ℕ) (i : ℕ) where
-  pub in_first : i < length first → get_or (first ++ second) i 0 ≡ get_or first i 0
-  in_first h = get_or-append first second 0 i h
-
-  pub in_second : length first ≤ i → get_or (first ++ second) i 0 ≡ get_or second (i - length first) 0
-  in_second h =
-      let e : i ≡ length first + (i - length first) = omega arith in
-      ap (λ (k : ℕ). get_or (first ++ second) k 0) e ∙ get_or-append-add first second (i - length first) 0

@@ -41,6 +41,7 @@ fn measure_of(target: u8, outcome: u32, reset: u32) -> Option<Gate>
     Some(Gate::Measure(target, Forced { outcome, reset }))
 }
 
+// Stays: a record's code is a number among its numbers, and here it becomes a gate.
 fn gate_of(code: u32, target: u8, second: u32, reset: u32, g: Angles) -> Option<Gate>
     ensures { result ≡ gate_of (row_of code) target second reset g }
 {

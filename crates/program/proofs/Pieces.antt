@@ -1,15 +1,15 @@
 -- The laws of a loop that prints a piece, and of one that prints piece after piece: the lines of answers in two parts are those of the first, and then those of
 -- the second with the numbers that follow; a u64 counts them, so the numbers are added modulo 2 ^ 64. Assumes nothing.
-use Rattle.std.proofs.Common.{◌≡◌, ℕ, suc, ◌+◌, ◌-◌, ◌%◌, ◌^◌, ◌<◌, ◌≤◌, min, List, [], ◌∷◌}
-use Rattle.std.proofs.Common.{◌++◌, length, take, drop, sym, refl, ap, ◌∙◌, append_assoc, append-nil, mod-eq_of_lt, arith, length-append, length-drop}
+use Rattle.std.proofs.Common.{◌≡◌, ℕ, suc, ◌+◌, ◌%◌, ◌^◌, ◌<◌, ◌≤◌, min, List, [], ◌∷◌}
+use Rattle.std.proofs.Common.{◌++◌, length, drop, sym, refl, ap, ◌∙◌, append_assoc, mod-eq_of_lt, arith, length-append}
 use native.Mathlib.Nat.{mod-add-mod}
-use Rattle.book.specs.Answers.{Buffers, replies}
+use Rattle.book.specs.Answers.{Buffers}
 use Rattle.book.specs.Lent.{SameSize}
 use Rattle.book.specs.declared.Reply.{Reply}
 use Rattle.delivery_lines.specs.Deliveries.{delivery_line}
 use Rattle.feeding.proofs.Loop.{Left, begins, turn, ends, none_taken, more}
 use Rattle.feeding.specs.Feeding.{Form, Takes, told_of}
-use Rattle.std.specs.Prelude.{Option, Some, None}
+use Rattle.std.specs.Prelude.{Option, None}
 use Rattle.once.specs.Answered.{Answered}
 use Rattle.puts.proofs.Puts.{put_then}
 use Rattle.printing.specs.Printed.{answer_lines}
@@ -52,15 +52,11 @@ lined_none {i} small here = record { put = record { behind = omega arith; stored
 lined_here : {i at : ℕ} {l : List ℕ} → i < 2 ^ 64 → at ≤ length l → Lined i [] l at i at l
 lined_here small within = lined_none small (omega arith)
 
--- nothing is told, or one answer
+-- nothing is told
 module _ (i count : ℕ) {told : Option Reply} where
   pub told_none : {at : ℕ} {l : List ℕ} → told ≡ None → i < 2 ^ 64 → at ≤ length l
       → Put (answer_lines i (told_of told count)) l at at l × (i ≡ (i + length (told_of told count)) % 2 ^ 64)
   told_none is small within = let lined = lined_here small within in rw is (lined.put, lined.index)
-
-  pub told_one : {x : Reply} {j at next : ℕ} {l l' : List ℕ} → told ≡ Some x → Put (delivery_line i (replies x) count) l at next l'
-      → j ≡ (i + 1) % 2 ^ 64 → Put (answer_lines i (told_of told count)) l at next l' × (j ≡ (i + length (told_of told count)) % 2 ^ 64)
-  told_one is put number = rw is (rw append-nil put, number)
 
 lined_then : {i j k at at₁ at₂ : ℕ} {t u : List Answered} {l l₁ l₂ : List ℕ}
     → i < 2 ^ 64 → Lined i t l at j at₁ l₁ → Lined j u l₁ at₁ k at₂ l₂ → Lined i (t ++ u) l at k at₂ l₂

@@ -51,6 +51,7 @@ pub fn start(n: u32, number: u32) -> Running
 }
 
 // The line of what was told, if anything was.
+// Stays: a place in the buffer, as in puts.
 fn put_told(out: &mut [u8], at: usize, index: u64, told: Option<Reply>, count: u16) -> Placed
     requires { at ≤ length out.old }
     ensures put { Put (answer_lines index (told_of told count)) out.old at result.at out.new }
@@ -83,6 +84,7 @@ pub fn put_piece<E: Engine>(
         mut index,
     } = from;
     let mut at = next_size(behind, out.len());
+    // Stays: it goes on by what a call used.
     let mut rest = piece;
     while !rest.is_empty() {
         let taken = feed.take::<E>(rest, reals, imags);

@@ -17,6 +17,7 @@ pub fn read_full<R: Read>(input: &mut R, buf: &mut [u8]) -> io::Result<usize>
     ensures err { OnErr result ((n : ℕ) × (n < length buf.new)
         × Consumes (R.remaining input.old) (R.remaining input.new) (take n buf.new)) }
 {
+    // Stays: it goes on by what a read gave.
     let mut done = 0;
     while done < buf.len() {
         let n = input.read(&mut buf[done..])?;

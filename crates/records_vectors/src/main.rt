@@ -15,10 +15,9 @@ fn main(rt: HostRuntime) -> io::Result<()> {
     let mut input = rt.stdin();
     let mut line = [0u8; MOST];
     for _ in 0..u64::MAX {
-        let len = read_line(&mut input, &mut line)?;
-        if MOST < len {
+        let Some(len) = read_line(&mut input, &mut line)? else {
             return Ok(());
-        }
+        };
         tell(&rt, &line[..len])?;
     }
     Ok(())

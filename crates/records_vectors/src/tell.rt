@@ -17,23 +17,17 @@ const LEAST: u32 = 24;
 // How many floats a record of this code has: an angle's two, U's eight, a bit flip's two.
 fn float_count(code: u32) -> usize {
     match code {
-        1 => 0,
-        2 => 0,
-        3 => 0,
-        4 => 0,
+        1 | 2 | 3 | 4 | 10 | 11 => 0,
         9 => 8,
-        10 => 0,
-        11 => 0,
         _ => 2,
     }
 }
 
 // Session, number, code, target; the mask, second qubit or outcome, which a bit flip has not; a measurement's reset.
 fn tell_fields(rt: &impl Print, fields: &[u32; 6]) -> io::Result<()> {
-    number(rt, fields[0])?;
-    number(rt, fields[1])?;
-    number(rt, fields[2])?;
-    number(rt, fields[3])?;
+    for field in &fields[..4] {
+        number(rt, *field)?;
+    }
     if fields[2] != 12 {
         number(rt, fields[4])?;
     }
@@ -80,11 +74,9 @@ fn tell_written(rt: &impl Print, fields: &[u32], values: &[f64], room: usize) ->
 
 // What is written back with a byte more than the record's, and with a byte less.
 fn tell_both(rt: &impl Print, fields: &[u32], values: &[f64], len: usize) -> io::Result<()> {
-    if 0 < len {
-        if len < ROOM {
-            tell_written(rt, fields, values, len + 1)?;
-            tell_written(rt, fields, values, len - 1)?;
-        }
+    if 0 < len && len < ROOM {
+        tell_written(rt, fields, values, len + 1)?;
+        tell_written(rt, fields, values, len - 1)?;
     }
     Ok(())
 }

@@ -6,6 +6,7 @@ ghost use Rattle.std.specs.Prelude.{◌+◌, ◌*◌, ◌^◌, ◌≤◌, ◌<�
 ghost use Rattle.book.specs.Records.{bytes, floats, field};
 ghost use Rattle.stores.specs.Stores.{Stored};
 
+// Stays: a place in the buffer, and not its rest: the writer answers how many bytes there are, which is the last place; a rest would keep the buffer lent.
 pub fn store(out: &mut [u8], at: usize, bytes: &[u8]) -> usize
     requires { at + length bytes.now ≤ length out.old }
     ensures { Stored bytes.now out.old at result out.new }

@@ -10,6 +10,7 @@ use book::{Controls, Shape};
 use stores::{store_floats_field, store_number_field};
 
 // Field 05.
+// Stays: a place in the buffer, as in stores.
 fn store_mask(out: &mut [u8], at: usize, controls: Controls) -> usize
     requires { at + 7 ≤ length out.old }
     ensures { Stored (mask_field controls) out.old at result out.new }

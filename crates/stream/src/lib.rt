@@ -10,6 +10,7 @@ ghost use Rattle.words.specs.Words.{Line};
 pub use delivery_lines::delivery_line;
 use words::{add, add_bits, add_mark, add_number};
 
+// Stays: a line in the caller's buffer, and its length: docs/PROMISES names the five lines with their contract (`Line`).
 pub fn amplitude_line(out: &mut [u8; 128], index: u64, re: f64, im: f64) -> usize
     ensures { Line (amplitude_line index re im) out.old result out.new }
 {

@@ -1,11 +1,10 @@
 -- The whole input, piece after piece: what the pieces so far print is what the bytes so far print; and behind them stands what a run from the start ends with.
 -- Assumes nothing.
-use Prim.Native.Nat.{ℕ, ◌+◌, ◌-◌, ◌^◌, ◌≤◌, ◌<◌}
+use Prim.Native.Nat.{ℕ, ◌^◌, ◌<◌}
 use native.Mathlib.Omega.{arith}
 use mathlib.Core.List.{List, [], ◌∷◌, ◌++◌, append-nil, append_assoc}
 use mathlib.Core.Path.{◌≡◌, refl, sym, ap, ap₂, ◌∙◌, subst}
-use lib.ListN.{length, take, drop}
-use lib.Seq.{take_all, take-add}
+use lib.ListN.{length, drop}
 use Rattle.book.specs.Answers.{Buffers}
 use Rattle.book.specs.Lent.{SameSize}
 use Rattle.book.specs.Sessions as Book

@@ -8,6 +8,7 @@ ghost use Rattle.words.specs.Words.{decimal, bits, mark_digits, Added};
 
 use stores::store;
 
+// Stays: a place in the buffer, as in stores; and no `write!`, whose writer could fail for room, where each line is proved to have it.
 pub fn add(out: &mut [u8], at: usize, words: &[u8]) -> usize
     requires { at + length words.now ≤ length out.old }
     ensures { Added words.now (length words.now) out.old at result out.new }

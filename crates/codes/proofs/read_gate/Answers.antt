@@ -13,25 +13,41 @@ mapped f (Some x) None h is = absurd h
 mapped f None r h is = h
 
 pub returns-in-1 : goal.returns-in-1
-returns-in-1 c = rw c.in-1.is (mapped (H c.args.target) c.read_plain.result _ c.map.ensures.cases (λ x y q. search rules) ∙ c.read_plain.ensures H c.args.target)
+returns-in-1 c = rw c.in-1.is
+    (mapped (H c.args.target) c.read_plain.result _ c.map.ensures.cases (λ x y q. search rules)
+    ∙ c.read_plain.ensures H c.args.target)
 
 pub returns-in-2 : goal.returns-in-2
-returns-in-2 c = rw c.in-2.is (mapped (X c.args.target) c.read_plain-in-2.result _ c.map-in-2.ensures.cases (λ x y q. search rules) ∙ c.read_plain-in-2.ensures X c.args.target)
+returns-in-2 c = rw c.in-2.is
+    (mapped (X c.args.target) c.read_plain-in-2.result _ c.map-in-2.ensures.cases (λ x y q. search rules)
+    ∙ c.read_plain-in-2.ensures X c.args.target)
 
 pub returns-in-3 : goal.returns-in-3
-returns-in-3 c = rw c.in-3.is (mapped (Y c.args.target) c.read_plain-in-3.result _ c.map-in-3.ensures.cases (λ x y q. search rules) ∙ c.read_plain-in-3.ensures Y c.args.target)
+returns-in-3 c = rw c.in-3.is
+    (mapped (Y c.args.target) c.read_plain-in-3.result _ c.map-in-3.ensures.cases (λ x y q. search rules)
+    ∙ c.read_plain-in-3.ensures Y c.args.target)
 
 pub returns-in-4 : goal.returns-in-4
-returns-in-4 c = rw c.in-4.is (mapped (Z c.args.target) c.read_plain-in-4.result _ c.map-in-4.ensures.cases (λ x y q. search rules) ∙ c.read_plain-in-4.ensures Z c.args.target)
+returns-in-4 c = rw c.in-4.is
+    (mapped (Z c.args.target) c.read_plain-in-4.result _ c.map-in-4.ensures.cases (λ x y q. search rules)
+    ∙ c.read_plain-in-4.ensures Z c.args.target)
 
 pub returns-in-5 : goal.returns-in-5
-returns-in-5 c = rw c.in-5.is (mapped (λ p. P c.args.target p.0 p.1) c.read_angled.result _ c.map-in-5.ensures.cases (λ x y q. search rules) ∙ c.read_angled.ensures P c.args.target)
+returns-in-5 c = rw c.in-5.is
+    (mapped (λ p. P c.args.target p.0 p.1) c.read_angled.result _ c.map-in-5.ensures.cases (λ x y q. search rules)
+    ∙ c.read_angled.ensures P c.args.target)
 
 pub returns-in-6 : goal.returns-in-6
-returns-in-6 c = rw c.in-6.is (mapped (λ p. Rx c.args.target p.0 p.1) c.read_angled-in-6.result _ c.map-in-6.ensures.cases (λ x y q. search rules) ∙ c.read_angled-in-6.ensures Rx c.args.target)
+returns-in-6 c = rw c.in-6.is
+    (mapped (λ p. Rx c.args.target p.0 p.1) c.read_angled-in-6.result _ c.map-in-6.ensures.cases (λ x y q. search rules)
+    ∙ c.read_angled-in-6.ensures Rx c.args.target)
 
 pub returns-in-7 : goal.returns-in-7
-returns-in-7 c = rw c.in-7.is (mapped (λ p. Ry c.args.target p.0 p.1) c.read_angled-in-7.result _ c.map-in-7.ensures.cases (λ x y q. search rules) ∙ c.read_angled-in-7.ensures Ry c.args.target)
+returns-in-7 c = rw c.in-7.is
+    (mapped (λ p. Ry c.args.target p.0 p.1) c.read_angled-in-7.result _ c.map-in-7.ensures.cases (λ x y q. search rules)
+    ∙ c.read_angled-in-7.ensures Ry c.args.target)
 
 pub returns-in-8 : goal.returns-in-8
-returns-in-8 c = rw c.in-8.is (mapped (λ p. Rz c.args.target p.0 p.1) c.read_angled-in-8.result _ c.map-in-8.ensures.cases (λ x y q. search rules) ∙ c.read_angled-in-8.ensures Rz c.args.target)
+returns-in-8 c = rw c.in-8.is
+    (mapped (λ p. Rz c.args.target p.0 p.1) c.read_angled-in-8.result _ c.map-in-8.ensures.cases (λ x y q. search rules)
+    ∙ c.read_angled-in-8.ensures Rz c.args.target)
