@@ -1,24 +1,20 @@
 -- Stretches of places turned: one place more, one stretch behind the other, and all places of the buffers. Assumes nothing.
 use Prim.Native.Nat.{ℕ, ◌+◌, ◌-◌, ◌^◌, ◌≤◌, ◌<◌}
-use mathlib.Core.Bool.{Bool, true, false}
-use mathlib.Core.List.{List, map}
-use mathlib.Core.Path.{◌≡◌, refl, sym, ap, ap₂, ◌∙◌, subst}
+use mathlib.Core.Bool.{Bool}
+use mathlib.Core.List.{List}
+use mathlib.Core.Path.{◌≡◌, refl, sym, ap, ◌∙◌, subst}
 use native.Mathlib.Decide.{ℕ_discrete}
 use native.Mathlib.Omega.{arith}
 use borrow.Author.Tests.{eq-eqb, ne_eqb}
 use lib.Dec.{eqb}
-use lib.Ieee.{Float, binary64, nan, of_bits}
-use lib.ListN.{length, get_or, take, drop, replicate}
-use borrow.Rule.Slice.PartMut.{put_mid}
-use Rattle.std.proofs.Common.{rules, get_or-drop, get_or-take, length-drop, length-take}
-use Rattle.std.proofs.lemmas.List.{places, length-map, length-replicate, get_or-map, get_or-replicate}
+use lib.Ieee.{Float}
+use lib.ListN.{length, set, length-set}
 use Rattle.book.proofs.Tables.{held_only}
 use Rattle.book.specs.Answers.{Buffers, buffers}
-use Rattle.book.specs.Gates.{◌⊗◌, nought}
 use Rattle.book.specs.Measuring.{collapsed}
 use Rattle.book.specs.State.{State, amplitude, at, held, bit, uncontrolled}
 use Rattle.book.specs.declared.Amplitude.{Amplitude}
-use Rattle.pairs.proofs.Halves.{turn_none, turn_join}
+use Rattle.pairs.proofs.Halves.{turn_none, turn_join, turn_one}
 use Rattle.probabilities.specs.Stretches.{Stretch}
 use Rattle.collapses.specs.Halves.{half_of, Remade}
 use Rattle.probabilities.proofs.Sums.{bit_is}
@@ -36,6 +32,16 @@ module _ (f : ℕ → Amplitude → Amplitude) where
         size = record { reals = q.size.reals ∙ p.size.reals; imags = q.size.imags ∙ p.size.imags };
         mapped = turn_join f x y p.mapped q.mapped;
       }
+
+  -- one place stored to in both buffers
+  pub one_more : {from i to : ℕ} {b₀ : Buffers} {re im : List Float} {x y : Float} → Stretch from to b₀ → from ≤ i → i < to → Remade f from i b₀ (buffers re im)
+      → amplitude x y ≡ f i (at (buffers re im) i) → Remade f from (i + 1) b₀ (buffers (set re i x) (set im i y))
+  one_more {i = i} {re = re} {im = im} {x = x} {y = y} ok l m p e =
+      join l (omega arith) p
+      (record {
+        size = record { reals = length-set re i x; imags = length-set im i y };
+        mapped = turn_one f i (buffers re im) x y (omega (arith, p.size.reals, ok.reals)) (omega (arith, p.size.imags, ok.imags)) e;
+      })
 
   -- all places: the buffers are the table
   pub whole : (n : ℕ) {b b' : Buffers} (g : State) → length b.reals ≡ 2 ^ n → length b.imags ≡ 2 ^ n → Remade f 0 (2 ^ n) b b'
@@ -59,86 +65,6 @@ told {b = b} p e =
 
 pub still : {f : ℕ → Amplitude → Amplitude} {from to a e : ℕ} {b b' : Buffers} → Remade f a e b b' → Stretch from to b → Stretch from to b'
 still p ok = record { order = ok.order; reals = omega (arith, p.size.reals, ok.reals); imags = omega (arith, p.size.imags, ok.imags) }
-
--- the code's 0.0
-zero_is : amplitude (of_bits binary64 0) (of_bits binary64 0) ≡ amplitude nought nought
-unfolding of_bits
-zero_is = refl
-
--- ---- a stretch of one buffer written anew
-
-pub record PartMade (g : Float → Float) (from to : ℕ) (xs ys : List Float) : Type 0 where
-  pub size : length ys ≡ length xs
-  pub inside : (i : ℕ) → from ≤ i → i < to → get_or ys i nan ≡ g (get_or xs i nan)
-  pub before : (i : ℕ) → i < from → get_or ys i nan ≡ get_or xs i nan
-  pub after : (i : ℕ) → to ≤ i → get_or ys i nan ≡ get_or xs i nan
-
--- what stands there is g of what stood there
-part_made : (g : Float → Float) (from to : ℕ) (xs part : List Float) → from ≤ to → to ≤ length xs → length part ≡ to - from
-    → ((j : ℕ) → j < to - from → get_or part j nan ≡ g (get_or xs (from + j) nan)) → PartMade g from to xs (put_mid from (to - from) xs part)
-part_made g from to xs part l m n e =
-    record {
-      size = search (rules, places);
-      inside = λ i x y.
-          let place : from + (i - from) ≡ i = omega arith in
-          let within : i - from < to - from = omega arith in
-          let here : get_or (put_mid from (to - from) xs part) i nan ≡ get_or part (i - from) nan = search (rules, places) in
-          here ∙ e (i - from) within ∙ ap (λ (k : ℕ). g (get_or xs k nan)) place;
-      before = λ i x. search (rules, places);
-      after = λ i x. search (rules, places);
-    }
-
-mid_length : (from to : ℕ) (xs : List Float) → from ≤ to → to ≤ length xs → length (take (to - from) (drop from xs)) ≡ to - from
-mid_length from to xs l m = omega (arith, length-take (to - from) (drop from xs), length-drop from xs)
-
-pub part_mapped : (g : Float → Float) (from to : ℕ) (xs part : List Float) → from ≤ to → to ≤ length xs
-    → part ≡ map g (take (to - from) (drop from xs)) → PartMade g from to xs (put_mid from (to - from) xs part)
-part_mapped g from to xs part l m e =
-    let mid = take (to - from) (drop from xs) in
-    let size : length mid ≡ to - from = mid_length from to xs l m in
-    part_made g from to xs part l m (ap length e ∙ length-map mid g ∙ size)
-    (λ j k. let within : j < length mid = omega arith in
-    ap (λ (ys : List Float). get_or ys j nan) e ∙ get_or-map g mid j nan nan within ∙ ap g (rw (get_or-take, get_or-drop)))
-
-pub part_filled : (v : Float) (from to : ℕ) (xs part : List Float) → from ≤ to → to ≤ length xs
-    → part ≡ replicate (length (take (to - from) (drop from xs))) v → PartMade (λ x. v) from to xs (put_mid from (to - from) xs part)
-part_filled v from to xs part l m e =
-    let size : length (take (to - from) (drop from xs)) ≡ to - from = mid_length from to xs l m in
-    let same : part ≡ replicate (to - from) v = e ∙ ap (λ (k : ℕ). replicate k v) size in
-    part_made (λ x. v) from to xs part l m (ap length same ∙ length-replicate (to - from) v)
-    (λ j k. ap (λ (ys : List Float). get_or ys j nan) same ∙ get_or-replicate (to - from) j v nan k)
-
-pub both_made : {f : ℕ → Amplitude → Amplitude} (g : Float → Float) {from to : ℕ} {b b' : Buffers} → PartMade g from to b.reals b'.reals
-    → PartMade g from to b.imags b'.imags → ((i : ℕ) (z : Amplitude) → amplitude (g z.re) (g z.im) ≡ f i z) → Remade f from to b b'
-both_made g {b = b} p q e =
-    record {
-      size = record { reals = p.size; imags = q.size };
-      mapped =
-          record {
-            inside = λ i x y. ap₂ amplitude (p.inside i x y) (q.inside i x y) ∙ e i (at b i);
-            before = λ i x. ap₂ amplitude (p.before i x) (q.before i x);
-            after = λ i x. ap₂ amplitude (p.after i x) (q.after i x);
-          };
-    }
-
-module _ {from to : ℕ} {b : Buffers} (ok : Stretch from to b) (r : Float) where
-  abbrev mid : List Float → List Float
-  mid xs = take (to - from) (drop from xs)
-
-  abbrev put : List Float → List Float → Buffers
-  put xs ys = buffers (put_mid from (to - from) b.reals xs) (put_mid from (to - from) b.imags ys)
-
-  pub stretch_scaled : {chosen : Bool} (xs ys : List Float) → chosen ≡ true → xs ≡ map (λ x. x ⊗ r) (mid b.reals)
-      → ys ≡ map (λ x. x ⊗ r) (mid b.imags) → Remade (λ i. half_of chosen r) from to b (put xs ys)
-  stretch_scaled xs ys e p q =
-      both_made (λ x. x ⊗ r) (part_mapped (λ x. x ⊗ r) from to b.reals xs ok.order ok.reals p)
-      (part_mapped (λ x. x ⊗ r) from to b.imags ys ok.order ok.imags q) (λ i z. rw e)
-
-  pub stretch_cleared : {chosen : Bool} (xs ys : List Float) → chosen ≡ false → xs ≡ replicate (length (mid b.reals)) (of_bits binary64 0)
-      → ys ≡ replicate (length (mid b.imags)) (of_bits binary64 0) → Remade (λ i. half_of chosen r) from to b (put xs ys)
-  stretch_cleared xs ys e p q =
-      both_made (λ x. of_bits binary64 0) (part_filled (of_bits binary64 0) from to b.reals xs ok.order ok.reals p)
-      (part_filled (of_bits binary64 0) from to b.imags ys ok.order ok.imags q) (λ i z. rw e zero_is)
 
 -- ---- block by block
 
