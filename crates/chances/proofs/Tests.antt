@@ -1,4 +1,4 @@
--- Tests 6 and 7, each from what the code's test answers. Assumes nothing.
+-- Tests 6 and 7, each from the code's flag and the one that was passed. Assumes nothing.
 use mathlib.Core.Bool.{Bool, true, false}
 use mathlib.Core.List.{[], ◌∷◌}
 use mathlib.Core.Path.{◌≡◌, sym, ◌∙◌}
@@ -26,3 +26,6 @@ module _ (f : Forced) (p : Float) where
     pub own_passed : y ≡ false → Own (Ok tt)
     unfolding first
     own_passed h = record { is = rw (sym e6 ∙ h6, sym e7 ∙ h) }
+
+-- whichever return it is
+pub ruleset own = (own_number, own_chance, own_passed)

@@ -28,10 +28,12 @@ pub fn bad_chance(p: f64) -> bool
 pub fn own(forced: Forced, p: f64) -> Result<(), Refusal>
     ensures { Judges (bad_forced forced ⇒ 6 ∷ bad_chance p ⇒ 7 ∷ []) result }
 {
-    if bad_forced(forced) {
+    let neither = bad_forced(forced);
+    let unlikely = bad_chance(p);
+    if neither {
         return Err(Refusal::Number);
     }
-    if bad_chance(p) {
+    if unlikely {
         return Err(Refusal::Chance);
     }
     Ok(())

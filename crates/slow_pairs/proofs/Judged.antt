@@ -1,6 +1,6 @@
 -- A gate that has a rule, judged: what each test refuses, what the engine asks, and what its closure worked out. Assumes nothing.
 use Prim.Native.Nat.{ℕ, ◌^◌, ◌<◌}
-use mathlib.Core.List.{◌++◌}
+use mathlib.Core.List.{[], ◌++◌}
 use mathlib.Core.Path.{◌≡◌, refl, ◌∙◌}
 use lib.Dec.{T}
 use Rattle.std.specs.Prelude.{None, Ok, Err}
@@ -14,9 +14,9 @@ use Rattle.book.specs.declared.Controls.{Controls}
 use Rattle.book.specs.declared.Refusal.{Refusal}
 use Rattle.into.proofs.Judged.{right_sizes, size_refuses, seat_refuses, own_refuses, passes}
 use Rattle.into.specs.Into.{into_tests}
-use Rattle.seated.proofs.Judged.{passed, own_decides}
+use Rattle.seated.proofs.Judged.{passed}
 use Rattle.seated.proofs.Seats.{seated}
-use Rattle.seated.specs.Judging.{Judges, Seated}
+use Rattle.seated.specs.Judging.{Judges}
 use Rattle.slow.specs.Slow.{Sized, Reaches}
 use Rattle.slow_rules.specs.Rules.{rule_of, most_of, own_of}
 use Rattle.slow_rules.specs.declared.Rule.{Rule}
@@ -45,22 +45,19 @@ module _ (rule : Rule) (n t : ℕ) (c : Controls) (b out : Buffers) where
     pair_seat = seat_refuses n b out (seat_tests (most_of rule) n t c) (own_of rule) numbers None (on_pairs (rule_of rule) n t c b) j
 
     module _ {u' : Unit} (k : Judges (size_tests n b ++ seat_tests (most_of rule) n t c) (Ok u')) where
+      pub pair_reaches : (i : ℕ) → i < 2 ^ n → Reaches t t b i
+      unfolding seat_tests
+      pair_reaches i h =
+          let s = seated (most_of rule) n t c b [] (passed k) in
+          record { n = n; sized = record { fits = s.fits; reals = s.reals; imags = s.imags }; one = s.qubit; two = s.qubit; inside = h }
+
       pub pair_own : {r : Refusal} → Judges (own_of rule) (Err r) → Does pair_outcome (Err r) out
       pair_own = own_refuses n b out (seat_tests (most_of rule) n t c) (own_of rule) numbers None (on_pairs (rule_of rule) n t c b) j k
 
-      module _ {u'' : Unit} (l : Judges (own_of rule) (Ok u'')) where
-        pub pair_seated : Seated n t c b
-        pair_seated = seated (most_of rule) n t c b (own_of rule) (passed (own_decides (size_tests n b) (seat_tests (most_of rule) n t c) (own_of rule) numbers k l))
-
-        pub pair_reaches : (i : ℕ) → i < 2 ^ n → Reaches t t b i
-        pair_reaches i h =
-            let s = pair_seated in
-            record { n = n; sized = record { fits = s.fits; reals = s.reals; imags = s.imags }; one = s.qubit; two = s.qubit; inside = h }
-
-        pub pair_done : {b' : Buffers} → SameSize out b' → ((i : ℕ) → i < 2 ^ n → at b' i ≡ placed (rule_of rule) t c (at b) i)
-            → Does pair_outcome (Ok None) b'
-        unfolding on_pairs
-        pair_done {b'} s h =
-            let o = outputs n out j in
-            passes n b out (seat_tests (most_of rule) n t c) (own_of rule) numbers None (on_pairs (rule_of rule) n t c b) j k l refl
-            (held_only (2 ^ n) (placed (rule_of rule) t c (at b)) b' (s.reals ∙ o.reals) (s.imags ∙ o.imags) h)
+      pub pair_done : {u'' : Unit} → Judges (own_of rule) (Ok u'') → {b' : Buffers} → SameSize out b' → ((i : ℕ) → i < 2 ^ n → at b' i ≡ placed (rule_of rule) t c (at b) i)
+          → Does pair_outcome (Ok None) b'
+      unfolding on_pairs
+      pair_done l {b'} s h =
+          let o = outputs n out j in
+          passes n b out (seat_tests (most_of rule) n t c) (own_of rule) numbers None (on_pairs (rule_of rule) n t c b) j k l refl
+          (held_only (2 ^ n) (placed (rule_of rule) t c (at b)) b' (s.reals ∙ o.reals) (s.imags ∙ o.imags) h)

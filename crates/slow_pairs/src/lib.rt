@@ -27,8 +27,8 @@ pub fn on_pairs(
 {
     size(reals, imags, n)?;
     seat(sr, si, n, target, controls, rule.most())?;
-    rule.judge()?;
     let place = |i| place_of_pair(rule, target, controls, sr, si, i);
+    rule.judge()?;
     fill(place, n, reals, imags);
     Ok(None)
 }

@@ -27,7 +27,7 @@ pub fill-requires : goal.fill-requires
 fill-requires c =
     let a = c.args in
     let reach : (i : ℕ) → i < 2 ^ a.n → Reaches a.target a.target (shown_here a.sr a.si) i =
-    pair_reaches a.rule _ _ a.controls (shown_here a.sr a.si) (here a.reals a.imags) c.in_ok-size.ensures (rw c.most.ensures at c.in_ok-seat.ensures) c.in_ok-judge.ensures in
+    pair_reaches a.rule _ _ a.controls (shown_here a.sr a.si) (here a.reals a.imags) c.in_ok-size.ensures (rw c.most.ensures at c.in_ok-seat.ensures) in
     record { outputs = outputs _ _ c.in_ok-size.ensures; each = search (rules, reach) }
 
 pub returns : goal.returns
