@@ -8,7 +8,7 @@ ghost use Rattle.book.specs.Lent.{before, after, here};
 ghost use Rattle.pairs.specs.Pairs.{Keyed, Swept};
 ghost use Rattle.pairs.specs.Runs.{Runs};
 
-use pairs::{read_pair, write_pair};
+use pairs::step;
 use rules::Rule;
 use runs::{Cut, runs};
 
@@ -101,10 +101,7 @@ pub fn sweep<R: Rule>(
 {
     let size: usize = 1 << n;
     if fixed + 1 == size {
-        let s0 = fixed - back0;
-        let s1 = fixed - back1;
-        let p = read_pair(reals, imags, s0, s1);
-        write_pair(reals, imags, s0, s1, rule.put(p));
+        step(reals, imags, fixed - back0, fixed - back1, rule);
         return;
     }
     by_runs(reals, imags, n, fixed, back0, back1, rule);

@@ -2,20 +2,11 @@
 // An inner room: its function asks for keys whose pairs lie apart, and its callers are proved.
 #![tactic(auto)]
 
-ghost use Rattle.book.specs.Lent.{before, after, here, SameSize};
-ghost use Rattle.book.specs.State.{at};
-ghost use Rattle.pairs.specs.Pairs.{TwoPlaces, PairPut, Keyed, Swept};
+ghost use Rattle.book.specs.Lent.{before, after, here};
+ghost use Rattle.pairs.specs.Pairs.{Keyed, Swept};
 
-use pairs::{read_pair, write_pair};
+use pairs::step;
 use rules::Rule;
-
-fn step<R: Rule>(reals: &mut [f64], imags: &mut [f64], s0: usize, s1: usize, rule: R)
-    requires { TwoPlaces (here reals imags) s0 s1 }
-    ensures { PairPut (R.rule rule) s0 s1 (at (before reals imags)) (at (after reals imags)) × SameSize (before reals imags) (after reals imags) }
-{
-    let p = read_pair(reals, imags, s0, s1);
-    write_pair(reals, imags, s0, s1, rule.put(p));
-}
 
 // w goes over the numbers that have all bits of fixed, rising; each is the key of a pair, at w - back0 and w - back1.
 pub fn by_keys<R: Rule>(

@@ -16,7 +16,7 @@ use Rattle.book.specs.declared.Pair.{Pair}
 use Rattle.seated.specs.Judging.{Seated}
 use Rattle.pairs.specs.Pairs.{Has, Paired, Keyed, Swept}
 use Rattle.pairs.proofs.Bits.{halves, bit_up, bit_le, bit_before, bit_down, up_lt, has_set, set_has, and_up}
-use Rattle.pairs.proofs.Buffers.{held_ext}
+use Rattle.book.proofs.Tables.{held_only as held_ext}
 
 pub by_bool : {P : Type 0} (b : Bool) → (b ≡ true → P) → (b ≡ false → P) → P
 by_bool true f g = f refl

@@ -11,7 +11,7 @@ use Rattle.book.specs.Kernels.{exchanged, swapped}
 use Rattle.book.specs.State.{State, at, bit}
 use Rattle.pairs.specs.Pairs.{Has, Paired, Keyed, Swept}
 use Rattle.pairs.proofs.Bits.{halves, bit_up, bit_le, bit_before, up_lt, has_set, set_has, bit_pow, bit_of_and, and_of_bit, bit_other}
-use Rattle.pairs.proofs.Buffers.{held_ext, held_same}
+use Rattle.book.proofs.Tables.{held_only as held_ext, held_same}
 
 -- ---- the exchanged index, by the two bits
 module _ (t u i : ℕ) where

@@ -19,7 +19,7 @@ use Rattle.book.specs.declared.Pair.{Pair}
 use Rattle.seated.specs.Judging.{Seated}
 use Rattle.pairs.specs.Pairs.{Mapped, UppersTurned}
 use Rattle.pairs.proofs.Bits.{halves}
-use Rattle.pairs.proofs.Buffers.{held_ext}
+use Rattle.book.proofs.Tables.{held_only as held_ext}
 use Rattle.pairs.proofs.Lending.{lent, returned, lent_reals, lent_place, back_same, back_inside, back_before, back_after}
 use Rattle.pairs.proofs.Blocks.{Base, room, low, high as upper}
 

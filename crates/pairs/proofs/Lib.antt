@@ -2,7 +2,6 @@
 pub mod Bits
 pub mod Loop
 pub mod Keys
-pub mod Buffers
 pub mod Chosen
 pub mod Exchanged
 pub mod Gate

@@ -1,4 +1,5 @@
-// The laws of the pairs that a target and its controls choose, in proofs/; and one pair of amplitudes read and written by value, or two written at once.
+// The laws of the pairs that a target and its controls choose, in proofs/; and a rule put to one pair of places, amplitudes read by value, or two pairs written
+// at once.
 // An inner room: its functions ask for places that are there, and their callers are proved.
 #![tactic(auto)]
 
@@ -9,6 +10,7 @@ ghost use Rattle.pairs.specs.Pairs.{TwoPlaces, pair_at, PairPut};
 ghost use Rattle.pairs.specs.Runs.{FourPlaces, WrittenTwo};
 
 use book::{Amplitude, Pair};
+use rules::Rule;
 
 pub fn read_pair(reals: &[f64], imags: &[f64], s0: usize, s1: usize) -> Pair
     requires { TwoPlaces (shown_here reals imags) s0 s1 }
@@ -26,7 +28,7 @@ pub fn read_pair(reals: &[f64], imags: &[f64], s0: usize, s1: usize) -> Pair
     }
 }
 
-pub fn write_pair(reals: &mut [f64], imags: &mut [f64], s0: usize, s1: usize, p: Pair)
+fn write_pair(reals: &mut [f64], imags: &mut [f64], s0: usize, s1: usize, p: Pair)
     requires { TwoPlaces (here reals imags) s0 s1 }
     ensures { PairPut (λ q. p) s0 s1 (at (before reals imags)) (at (after reals imags)) × SameSize (before reals imags) (after reals imags) }
 {
@@ -36,6 +38,16 @@ pub fn write_pair(reals: &mut [f64], imags: &mut [f64], s0: usize, s1: usize, p:
     imags[s0] = ab.im;
     reals[s1] = cd.re;
     imags[s1] = cd.im;
+}
+
+// A rule put to the pair at s0 and s1.
+#[inline(always)]
+pub fn step<R: Rule>(reals: &mut [f64], imags: &mut [f64], s0: usize, s1: usize, rule: R)
+    requires { TwoPlaces (here reals imags) s0 s1 }
+    ensures { PairPut (R.rule rule) s0 s1 (at (before reals imags)) (at (after reals imags)) × SameSize (before reals imags) (after reals imags) }
+{
+    let p = read_pair(reals, imags, s0, s1);
+    write_pair(reals, imags, s0, s1, rule.put(p));
 }
 
 // Two pairs that lie stride apart. One buffer's stores stand together, so that the compiler can join those to neighbours.

@@ -1,5 +1,5 @@
 // The rules of the gates, as types: a Rule is what a gate makes of a pair, an UpperRule what it makes of s1 alone where it leaves s0. A loop over pairs is
-// written once, for any of them, and the compiler makes one for each. Here are those that need no F; and U's matrix, passed on.
+// written once, for any of them, and the compiler makes one for each. Here are those that need no F.
 #![tactic(auto)]
 
 ghost use Rattle.std.specs.Prelude.{◌≡◌};
@@ -9,7 +9,6 @@ ghost use Rattle.book.specs.declared.Amplitude.{Amplitude};
 ghost use Rattle.book.specs.declared.Pair.{Pair};
 ghost use Rattle.rules.specs.Rules.{z_upper};
 
-pub use angle_rules::u_matrix;
 use angle_rules::{rx_rule, ry_rule};
 use book::{Amplitude, Angle, Pair};
 use plain_rules::{h_rule, x_rule, y_rule};

@@ -7,7 +7,7 @@ ghost use Rattle.book.specs.Lent.{before, after, here};
 ghost use Rattle.pairs.specs.Pairs.{Swept};
 ghost use Rattle.pairs.specs.Runs.{Run, RunDone, Runs};
 
-use pairs::{read_pair, write_pair, write_two};
+use pairs::{read_pair, step, write_two};
 use rules::Rule;
 
 // One pair at a turn, at each stride-th place.
@@ -26,8 +26,7 @@ fn along<R: Rule>(
 {
     let mut i = 0;
     while i < run {
-        let p = read_pair(reals, imags, i, i + d);
-        write_pair(reals, imags, i, i + d, rule.put(p));
+        step(reals, imags, i, i + d, rule);
         i += stride;
     }
 }

