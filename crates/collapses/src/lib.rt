@@ -11,6 +11,7 @@ ghost use Rattle.collapses.specs.Halves.{scaled, cleared, half_of, Remade};
 ghost use Rattle.seated.specs.Judging.{Seated};
 
 // A stretch of the chosen half. Both buffers in one loop: a half of few places would cost more in two.
+// Stays: a stretch by its ends, here and below: C lends two buffers, and of two parts of them it would have to be said that they lie at one place (`Stretch`).
 fn scale_part(reals: &mut [f64], imags: &mut [f64], from: usize, to: usize, r: f64)
     requires { Stretch from to (here reals imags) }
     ensures { Remade (λ i. scaled r) from to (before reals imags) (after reals imags) }

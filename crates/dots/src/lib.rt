@@ -12,6 +12,7 @@ use matrices::{read_at, write_at};
 use summands::add_product;
 
 // A row of A times a state.
+// Stays: a row by where it begins: C lends two buffers, and of two parts of them it would have to be said that they are one row (`Holds`).
 fn row_dot(ar: &[f64], ai: &[f64], br: &[f64], bi: &[f64], from: usize, side: usize) -> Amplitude
     requires { Holds (from + side) (shown_here ar ai) × Holds side (shown_here br bi) }
     ensures { result ≡ state_dot (shown ar ai) from (shown br bi) side }

@@ -10,6 +10,7 @@ ghost use Rattle.seated.specs.Judging.{Seated};
 ghost use Rattle.probabilities.specs.Stretches.{Stretch, added};
 
 // The squares of a stretch of places, added to the sum so far.
+// Stays: a stretch by its ends: C lends two buffers, and of two parts of them it would have to be said that they lie at one place (`Stretch`).
 fn add_squares(reals: &[f64], imags: &[f64], from: usize, to: usize, start: f64) -> f64
     requires { Stretch from to (shown_here reals imags) }
     ensures { result ≡ added (at (shown reals imags)) from start (to - from) }

@@ -12,6 +12,7 @@ use matrices::{read_at, write_at};
 use summands::{add_product, clear_row};
 
 // One inner index: a times a row of B, added to a row of sums.
+// Stays: rows by where they begin, here and below: C lends two buffers, and of two parts of them it would have to be said that they are one row (`Holds`).
 fn add_row(
     reals: &mut [f64],
     imags: &mut [f64],

@@ -22,6 +22,7 @@ pub fn add_product(sum: Amplitude, a: Amplitude, b: Amplitude) -> Amplitude
 }
 
 // A row of sums starts at 0.0.
+// Stays: a row by where it begins, as in row_sums.
 pub fn clear_row(reals: &mut [f64], imags: &mut [f64], from: usize, side: usize)
     requires { Holds (from + side) (here reals imags) }
     ensures { Filled from side (λ j. amplitude nought nought) (before reals imags) (after reals imags) }

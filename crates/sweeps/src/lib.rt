@@ -37,6 +37,7 @@ pub fn put_chosen<R: Rule>(
 }
 
 // A gate on pairs.
+// Stays: uppers has another like it: behind the judge each has a step of its own, over a trait of its own.
 #[inline]
 pub fn on_pairs<G: Rule + Fed>(
     reals: &mut [f64],
