@@ -5,7 +5,7 @@ use mathlib.Core.Path.{◌≡◌, sym, ap, ◌∙◌}
 use native.Mathlib.Nat.{pow-suc, mul_comm, mul_assoc, one-mul, zero-mul, add-mul, lt_of_mul-lt-mul_right, mul-le-mul_right}
 use native.Mathlib.Omega.{arith}
 use lib.Arith.{digits_div}
-use lib.Pow.{pow-add, pow_mono, pow_pos}
+use lib.Pow.{pow-add, pow_pos}
 use Rattle.book.specs.State.{bit}
 
 -- where a block starts
@@ -60,10 +60,6 @@ module _ {n t base : ℕ} (u : Base n t base) (q : t < n) (l : base < 2 ^ n) whe
 -- the block behind the last one starts at the end
 pub ended : {n t base : ℕ} → Base n t base → 2 ^ n ≤ base → base ≡ 2 ^ n
 ended u l = omega (arith, u.within)
-
--- places within 24 qubits fit a usize
-pub place_fits : {n place : ℕ} → n ≤ 24 → place ≤ 2 ^ n → place < 2 ^ 64
-place_fits {n} m l = omega (arith, pow_mono {i = n} {j = 24} m)
 
 -- a turn of a loop over the blocks brings its end nearer
 pub nearer : (n t base : ℕ) → base < 2 ^ n → 2 ^ n - (base + 2 ^ t + 2 ^ t) < 2 ^ n - base

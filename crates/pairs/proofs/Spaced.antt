@@ -1,17 +1,14 @@
 -- A walk along a lent run, one pair or two at a turn, for any rule. Assumes nothing.
 use Prim.Native.Nat.{ℕ, ◌+◌, ◌*◌, ◌/◌, ◌%◌, ◌≤◌, ◌<◌}
-use mathlib.Core.List.{List}
 use mathlib.Core.Logic.{◌⊎◌, inl, inr, ⊎_elim}
-use mathlib.Core.Path.{◌≡◌, refl, sym, ap, ap₂, ◌∙◌, subst}
+use mathlib.Core.Path.{◌≡◌, refl, sym, ap, ◌∙◌, subst}
 use native.Mathlib.Decide.{ℕ_discrete}
 use native.Mathlib.Nat.{div-add-mod', lt_of_mul-lt-mul_right, mul-le-mul_right, add-mul, one-mul, mul_comm, mul_assoc, add-mod_right, zero-mod, mul-mod_left}
 use native.Mathlib.Omega.{arith}
-use lib.Ieee.{nan}
-use lib.ListN.{length, get_or, set, length-set}
-use lib.Seq.{get_or-set_same, get_or-set_other}
-use Rattle.book.specs.Answers.{Buffers, buffers}
+use lib.ListN.{length}
+use Rattle.book.specs.Answers.{Buffers}
 use Rattle.book.specs.Lent.{SameSize}
-use Rattle.book.specs.State.{State, amplitude, at, pair}
+use Rattle.book.specs.State.{State, at, pair}
 use Rattle.book.specs.declared.Pair.{Pair}
 use Rattle.pairs.specs.Pairs.{TwoPlaces, pair_at, PairPut, Apart, Paired}
 use Rattle.pairs.specs.Runs.{Spaced, Run, RunDone, FourPlaces, WrittenTwo}
@@ -35,66 +32,6 @@ halved s i z =
     let e : q * (s * 2) ≡ i = omega (arith, div-add-mod' i (s * 2)) in
     let e' : q * 2 * s ≡ i = mul_assoc q 2 s ∙ ap (λ (x : ℕ). q * x) (mul_comm 2 s) ∙ e in
     ap (λ (x : ℕ). x % s) (sym e') ∙ mul-mod_left (q * 2) s
-
--- ---- four stores to one list, at s0, s0 + k, s1, s1 + k
-module _ {A : Type 0} (l : List A) (s0 s1 k : ℕ) (x y z w d : A) (order : s0 < s1) (some : 0 < k) (apart : s0 + k ≡ s1 → ⊥) (high : s1 + k < length l) where
-  abbrev l1 : List A
-  l1 = set l s0 x
-
-  abbrev l2 : List A
-  l2 = set l1 (s0 + k) y
-
-  abbrev l3 : List A
-  l3 = set l2 s1 z
-
-  abbrev l4 : List A
-  l4 = set l3 (s1 + k) w
-
-  n2 : length l2 ≡ length l
-  n2 = simp length-set
-
-  n3 : length l3 ≡ length l
-  n3 = simp length-set
-
-  pub four_other : (i : ℕ) → (i ≡ s0 → ⊥) → (i ≡ s1 → ⊥) → (i ≡ s0 + k → ⊥) → (i ≡ s1 + k → ⊥) → get_or l4 i d ≡ get_or l i d
-  four_other i a b e f =
-      get_or-set_other l3 (s1 + k) i w d f ∙ get_or-set_other l2 s1 i z d b ∙ get_or-set_other l1 (s0 + k) i y d e ∙ get_or-set_other l s0 i x d a
-
-  pub four_low : get_or l4 s0 d ≡ x
-  four_low =
-      get_or-set_other l3 (s1 + k) s0 w d (λ e. omega arith) ∙ get_or-set_other l2 s1 s0 z d (λ e. omega arith)
-      ∙ get_or-set_other l1 (s0 + k) s0 y d (λ e. omega arith) ∙ get_or-set_same l s0 x d (omega arith)
-
-  pub four_low_next : get_or l4 (s0 + k) d ≡ y
-  four_low_next =
-      get_or-set_other l3 (s1 + k) (s0 + k) w d (λ e. omega arith) ∙ get_or-set_other l2 s1 (s0 + k) z d apart
-      ∙ get_or-set_same l1 (s0 + k) y d (omega (arith, length-set l s0 x))
-
-  pub four_high : get_or l4 s1 d ≡ z
-  four_high = get_or-set_other l3 (s1 + k) s1 w d (λ e. omega arith) ∙ get_or-set_same l2 s1 z d (omega (arith, n2))
-
-  pub four_high_next : get_or l4 (s1 + k) d ≡ w
-  four_high_next = get_or-set_same l3 (s1 + k) w d (omega (arith, n3))
-
-pub written_two : (b : Buffers) (s0 s1 k : ℕ) (p q : Pair) → FourPlaces b s0 s1 k
-    → let b' = buffers (set (set (set (set b.reals s0 p.s0.re) (s0 + k) q.s0.re) s1 p.s1.re) (s1 + k) q.s1.re)
-    (set (set (set (set b.imags s0 p.s0.im) (s0 + k) q.s0.im) s1 p.s1.im) (s1 + k) q.s1.im) in
-    WrittenTwo s0 s1 k p q (at b) (at b') × SameSize b b'
-written_two b s0 s1 k p q ok = (
-  record {
-    lower = ap₂ amplitude (four_low b.reals s0 s1 k _ _ _ _ nan ok.order ok.some ok.apart ok.reals)
-        (four_low b.imags s0 s1 k _ _ _ _ nan ok.order ok.some ok.apart ok.imags);
-    upper = ap₂ amplitude (four_high b.reals s0 s1 k _ _ _ _ nan ok.order ok.some ok.apart ok.reals)
-        (four_high b.imags s0 s1 k _ _ _ _ nan ok.order ok.some ok.apart ok.imags);
-    lower_next = ap₂ amplitude (four_low_next b.reals s0 s1 k _ _ _ _ nan ok.order ok.some ok.apart ok.reals)
-        (four_low_next b.imags s0 s1 k _ _ _ _ nan ok.order ok.some ok.apart ok.imags);
-    upper_next = ap₂ amplitude (four_high_next b.reals s0 s1 k _ _ _ _ nan ok.order ok.some ok.apart ok.reals)
-        (four_high_next b.imags s0 s1 k _ _ _ _ nan ok.order ok.some ok.apart ok.imags);
-    others = λ i e f g h. ap₂ amplitude (four_other b.reals s0 s1 k _ _ _ _ nan ok.order ok.some ok.apart ok.reals i e f g h)
-        (four_other b.imags s0 s1 k _ _ _ _ nan ok.order ok.some ok.apart ok.imags i e f g h);
-  },
-  record { reals = simp length-set; imags = simp length-set },
-)
 
 -- ---- what a walk keeps, at its place i; step is the stride, or twice the stride
 pub record Walk (rule : Pair → Pair) (run d stride step : ℕ) (b₀ : Buffers) (i : ℕ) (b : Buffers) : Type 0 where
@@ -142,17 +79,6 @@ module _ {run d stride : ℕ} {b₀ : Buffers} (ok : Run run d stride b₀) wher
 
   -- one pair at a turn
   module _ {rule : Pair → Pair} {i : ℕ} {b : Buffers} (u : Walk rule run d stride stride b₀ i b) (l : i < run) where
-    pub one_room : i + d < length b₀.reals
-    one_room = ok.room i (u.on, l)
-
-    pub one_asks : TwoPlaces b i (i + d)
-    one_asks =
-        record {
-          apart = omega (arith, not_zero i (u.on, l));
-          reals = omega (arith, one_room, u.same.reals);
-          imags = omega (arith, one_room, u.same.imags, ok.equal);
-        }
-
     pub one_steps : {b' : Buffers} → PairPut rule i (i + d) (at b) (at b') × SameSize b b' → Walk rule run d stride stride b₀ (i + stride) b'
     one_steps {b'} st =
         walk_on u st.1

@@ -3,7 +3,6 @@ use Prim.Native.Nat.{ℕ, ◌+◌, ◌-◌, ◌^◌, ◌≤◌, ◌<◌}
 use mathlib.Core.Path.{◌≡◌, sym, ap, ◌∙◌, subst}
 use native.Mathlib.Omega.{arith}
 use lib.Count.{count_trailing_zeros}
-use lib.Pow.{pow_pos}
 use Rattle.book.specs.Answers.{Buffers}
 use Rattle.book.specs.declared.Pair.{Pair}
 use Rattle.pairs.specs.Pairs.{Keyed, Swept}
@@ -33,9 +32,6 @@ module _ {n fixed back0 back1 : ℕ} {b : Buffers} (ok : Keyed n fixed back0 bac
 
   stride_is : stride_of fixed ≡ 2 ^ count_trailing_zeros 64 (fixed + 1)
   stride_is = shl_is (count_trailing_zeros 64 (fixed + 1)) tail_le
-
-  pub stride_some : 1 ≤ stride_of fixed
-  stride_some = omega (arith, stride_is, pow_pos (count_trailing_zeros 64 (fixed + 1)))
 
   pub low_fits : stride_of fixed - 1 ≤ fixed
   low_fits = low_le n fixed ok.fits free (stride_of fixed) stride_is
@@ -76,9 +72,3 @@ module _ {n fixed back0 back1 : ℕ} {b : Buffers} (ok : Keyed n fixed back0 bac
       runs_near =
           subst (λ (x : ℕ). Runs n (wide_of fixed) (run_of n fixed) stride 1 x b) none
           (subst (λ (x : ℕ). Runs n (wide_of fixed) (run_of n fixed) stride x back1 b) near runs_as)
-
-      pub swept_near : {rule : Pair → Pair} {b' : Buffers} → Swept rule n (wide_of fixed + (stride - 1)) 1 0 b b' → Swept rule n fixed back0 back1 b b'
-      swept_near {rule} {b'} w =
-          swept_as
-          (subst (λ (x : ℕ). Swept rule n (wide_of fixed + (stride - 1)) x back1 b b') (sym near)
-          (subst (λ (x : ℕ). Swept rule n (wide_of fixed + (stride - 1)) 1 x b b') (sym none) w))
