@@ -23,7 +23,8 @@ pub struct Feed {
     pub held: [u8; 97],
 }
 
-// A call hands back the next form, how many bytes of the piece it used, and what its delivery was answered, if it made one. The bytes behind those are for the next call.
+// A call hands back the next form, how many bytes of the piece it used, and what its delivery was answered, if it made one. The bytes behind those are for
+// the next call.
 #[derive(Clone, Copy)]
 pub struct Taken {
     pub next: Feed,

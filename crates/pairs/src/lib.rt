@@ -12,6 +12,7 @@ ghost use Rattle.pairs.specs.Runs.{FourPlaces, WrittenTwo};
 use book::{Amplitude, Pair};
 use rules::Rule;
 
+// Stays: `TwoPlaces` at each function: it is of the two buffers that C lends, and of two places that a loop chooses.
 pub fn read_pair(reals: &[f64], imags: &[f64], s0: usize, s1: usize) -> Pair
     requires { TwoPlaces (shown_here reals imags) s0 s1 }
     ensures { result ≡ pair_at (shown reals imags) s0 s1 }
