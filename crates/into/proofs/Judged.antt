@@ -8,6 +8,7 @@ use borrow.Author.Tests.{ltb-false}
 use lib.Dec.{T, ltb}
 use lib.ListN.{length}
 use Rattle.std.specs.Prelude.{Option, Ok, Err}
+use Rattle.std.specs.Result.{result_and}
 use Rattle.book.proofs.Refusals.{numbered, clear_start, neither, right_lengths, sizes_numbered}
 use Rattle.book.specs.Answers.{Answer, says, Test, first, Buffers, Call, call, Outcome, outcome_of, accepted, Does}
 use Rattle.book.specs.Kernels.{bad_size, bad_length, most_qubits, size_tests}
@@ -45,6 +46,12 @@ pub then_inputs : (n : ℕ) (b out : Buffers) (us : List Test) {u : Unit} {r : R
     → Judges (into_tests n b out ++ us) r
 then_inputs n b out us j k =
     record { is = (judged_behind (size_tests n out) (size_tests n b ++ us) (sizes_numbered n out) j k).is ∙ first_both n b out us }
+
+-- both judged, and the first refusal told
+pub both_judged : (n : ℕ) (b out : Buffers) (us : List Test) (r : Ruling) {s : Ruling} → Judges (size_tests n out) r → Judges (size_tests n b ++ us) s
+    → Judges (into_tests n b out ++ us) (result_and r s)
+both_judged n b out us (Ok u) j k = then_inputs n b out us j k
+both_judged n b out us (Err e) j k = outputs_refused n b out us j
 
 -- what holds of both states once 1 and 2 are passed
 pub record Passed (n : ℕ) (b out : Buffers) : Type 0 where

@@ -24,8 +24,9 @@ fn judge(
 ) -> Result<(), Refusal>
     ensures { Judges (into_tests n (shown sr si) (shown reals imags) ++ free_tests n target) result }
 {
-    size(reals, imags, n)?;
-    free_seat(sr, si, n, target)
+    let outputs = size(reals, imags, n);
+    let inputs = free_seat(sr, si, n, target);
+    outputs.and(inputs)
 }
 
 // Amplitudes exchanged whose indices differ by exchanging the bits t0 and t1; a qubit with itself changes nothing. Both are judged by the higher.
