@@ -39,7 +39,13 @@ pub added_all : (s : State) (re im : List Float) (from to m : ℕ) (start : Floa
     → m ≡ min (length (take (to - from) (drop from re))) (length (take (to - from) (drop from im))) → sum ≡ added s from start m
     → sum ≡ added s from start (to - from)
 added_all s re im from to m start l p q end e =
-    let size : m ≡ to - from = omega (arith, length-take (to - from) (drop from re), length-take (to - from) (drop from im), length-drop from re, length-drop from im) in
+    let size : m ≡ to - from = omega (
+      arith,
+      length-take (to - from) (drop from re),
+      length-take (to - from) (drop from im),
+      length-drop from re,
+      length-drop from im,
+    ) in
     e ∙ ap (added s from start) size
 
 -- ---- the sum over the indices with target bit o

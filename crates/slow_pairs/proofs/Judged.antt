@@ -54,8 +54,8 @@ module _ (rule : Rule) (n t : ℕ) (c : Controls) (b out : Buffers) where
       pub pair_own : {r : Refusal} → Judges (own_of rule) (Err r) → Does pair_outcome (Err r) out
       pair_own = own_refuses n b out (seat_tests (most_of rule) n t c) (own_of rule) numbers None (on_pairs (rule_of rule) n t c b) j k
 
-      pub pair_done : {u'' : Unit} → Judges (own_of rule) (Ok u'') → {b' : Buffers} → SameSize out b' → ((i : ℕ) → i < 2 ^ n → at b' i ≡ placed (rule_of rule) t c (at b) i)
-          → Does pair_outcome (Ok None) b'
+      pub pair_done : {u'' : Unit} → Judges (own_of rule) (Ok u'') → {b' : Buffers} → SameSize out b'
+          → ((i : ℕ) → i < 2 ^ n → at b' i ≡ placed (rule_of rule) t c (at b) i) → Does pair_outcome (Ok None) b'
       unfolding on_pairs
       pair_done l {b'} s h =
           let o = outputs n out j in
