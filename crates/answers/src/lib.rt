@@ -18,6 +18,7 @@ const AGAIN: u32 = 256;
 // An AGAIN that tells a value v is AGAIN_VALUE + v.
 const AGAIN_VALUE: u32 = 512;
 
+// Stays: functions, here and below: these are the archive's numbers, and an impl of From would stand in book, which has none of them.
 pub fn tell(answer: Answer) -> u32
     ensures { result ≡ said_number (says answer) }
 {

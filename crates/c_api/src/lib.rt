@@ -1,5 +1,6 @@
 // The gate bench for C and Rust, as include/gate_bench.h declares it. Each call hands its numbers and lent buffers to a proved function and tells the answer as
 // one number. No call demands anything of its caller but what the header says of pointers.
+// Stays: a function for each call, and two buffers beside each other: the C interface.
 #![tactic(auto)]
 
 mod deliveries;

@@ -20,6 +20,7 @@ pub struct Counted {
 
 // A record that was run, of these bytes: one that was taken makes the count `next`, its own value is kept, or none, and its bytes move the mark; one that was
 // refused leaves all three.
+// Stays: the three side by side, here and below: a session holds them in one struct with its number, and two functions take them apart.
 pub fn ran(
     count: u16,
     value: Option<u8>,

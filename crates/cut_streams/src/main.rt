@@ -63,6 +63,7 @@ fn run_stored(rt: &(impl Files + Print), name: &str) -> io::Result<()> {
 }
 
 // Argument 0 is the program's own name.
+// Stays: three lines that stored_runs has too: no plainer as a function that takes what to do with a name.
 fn main(rt: HostRuntime) -> io::Result<()> {
     for name in env::args(&rt)?.skip(1) {
         run_stored(&rt, name.as_str())?;

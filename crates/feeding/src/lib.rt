@@ -15,7 +15,7 @@ use once::next_size;
 use sessions::Session;
 use words::add;
 
-// A session, and what is kept of the stream between two pieces: at most 97 bytes, and a number (crate gathering says which).
+// A session, and what is kept of the stream between two pieces: at most 97 bytes, and a number (crate gathering says which, and why it is one).
 #[derive(Clone, Copy)]
 pub struct Feed {
     pub session: Session,
@@ -144,6 +144,7 @@ fn fill(told: Option<Reply>, count: u16, filled: usize, answers: &mut [u32]) -> 
 }
 
 // All of a piece, step by step.
+// Stays: a `while`: it goes on by what a call used.
 fn take_whole<E: Engine>(
     from: Filling,
     held: &mut [u8; 97],

@@ -1,7 +1,7 @@
 // Fields of a gate record, each at the start of the bytes: what it holds and what follows it, or none where it is not there as listed.
 #![tactic(auto)]
 
-ghost use Rattle.std.specs.Prelude.{◌≡◌, ℕ, ◌+◌, ◌*◌, ◌^◌, ◌≤◌, ◌<◌, false, ◌&&◌, leb, length, MatchOption};
+ghost use Rattle.std.specs.Prelude.{◌≡◌, ℕ, ◌+◌, ◌*◌, ◌^◌, ◌≤◌, ◌<◌, true, false, ◌&&◌, leb, length, MatchOption};
 ghost use Rattle.book.specs.Records.{starts, number, float, read_angles, last};
 ghost use Rattle.fields.specs.Fields.{Holds, two_floats};
 
@@ -15,6 +15,7 @@ const WIDEST: usize = 8;
 pub fn number_field(bytes: &[u8], tag: u8, width: usize) -> Option<(u64, &[u8])>
     ensures is { MatchOption result (leb width 8 && starts tag width bytes.now ≡ false) (λ p. Holds number tag width bytes.now p.0 p.1.now) }
     ensures small { MatchOption result (Unit {0}) (λ p. p.0 < 256 ^ width) }
+    ensures narrow { MatchOption result (Unit {0}) (λ p. leb width 8 ≡ true) }
 {
     if WIDEST < width {
         return None;

@@ -12,6 +12,7 @@ use frames::{Next, next_frame};
 
 // The number that is kept: below this, that so many bytes of a frame are held; this, that a wrong tag came; above it, how many bytes more of an over-long frame
 // are still to be read past. So at most 97 bytes are held: a frame's tag, its length and 94 bytes.
+// Stays: one number for the three, since a C caller keeps one number (docs/DECISIONS.md, 68).
 pub const STOPPED: u32 = 97;
 
 // What a piece completes first: no frame, one with so many bytes of contents, or one that is too long.

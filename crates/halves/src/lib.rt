@@ -27,7 +27,7 @@ fn turn_along<R: UpperRule>(reals: &mut [f64], imags: &mut [f64], rule: R)
 }
 
 // w goes over the numbers that have all bits of low, rising; each is the key of a place, at w - back.
-// Stays: `Half` at this function and the two below: it is of two parts of the buffers that C lends.
+// Stays: `Half` at this function and the two below: it is of two parts of the buffers that C lends. And a `while`, here and below: no range has such numbers.
 #[inline]
 fn turn_chosen<R: UpperRule>(reals: &mut [f64], imags: &mut [f64], low: usize, back: usize, rule: R)
     requires { Half low back (here reals imags) }

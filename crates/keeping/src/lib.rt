@@ -46,6 +46,7 @@ pub fn begin(words: &mut [u32; 8], n: u32, number: u32)
 }
 
 // Where the count moved, it, the value's word and the mark are written.
+// Stays: the three side by side, here and below: no plainer as a struct that only these two functions would take.
 fn write(words: &mut [u32], count: u16, word: u32, mark: u32)
     requires { 5 ≤ length words.old }
     ensures { words.new ≡ written words.old count word mark }

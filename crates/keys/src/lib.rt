@@ -9,6 +9,7 @@ use pairs::step;
 use rules::Rule;
 
 // w goes over the numbers that have all bits of fixed, rising; each is the key of a pair, at w - back0 and w - back1.
+// Stays: a `while`: no range has such numbers.
 pub fn by_keys<R: Rule>(
     reals: &mut [f64],
     imags: &mut [f64],

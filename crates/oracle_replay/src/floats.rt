@@ -69,6 +69,7 @@ pub(crate) fn read_floats<R: Read>(
 }
 
 // Bit for bit.
+// Stays: cut_streams has it too, and says why.
 pub(crate) fn differ(found: &[f64], wanted: &[f64]) -> bool {
     found
         .iter()

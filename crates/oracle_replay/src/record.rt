@@ -16,20 +16,24 @@ const VALUE: u8 = 32;
 // A record stands in as many bytes as the longest has.
 const SLOT: usize = 94;
 
-// The file's byte for an answer; it has none for a refusal.
-fn byte_of(answer: Answer) -> Option<u8> {
+// What is told of a refusal, and of a record that is not run.
+const REFUSED: u8 = 255;
+
+fn byte_of(answer: Answer) -> u8 {
     match answer {
-        Ok(None) => Some(0),
-        Ok(Some(v)) => VALUE.checked_add(v),
-        Err(_) => None,
+        Ok(None) => 0,
+        Ok(Some(v)) => VALUE.wrapping_add(v),
+        Err(_) => REFUSED,
     }
 }
 
 // What a new session tells of the bytes.
-fn told_of(n: u8, bytes: &[u8], reals: &mut [f64], imags: &mut [f64]) -> Option<u8> {
-    let session = Session::start(u32::from(n), NUMBER).ok()?;
+fn told_of(n: u8, bytes: &[u8], reals: &mut [f64], imags: &mut [f64]) -> u8 {
+    let Ok(session) = Session::start(u32::from(n), NUMBER) else {
+        return REFUSED;
+    };
     match session.deliver::<Fast>(bytes, reals, imags).reply {
-        Reply::Again(_) => None,
+        Reply::Again(_) => REFUSED,
         Reply::Said(answer) => byte_of(answer),
     }
 }
@@ -46,5 +50,5 @@ pub(crate) fn deliver<R: Read>(
     if SLOT < length || read_full(input, &mut slot)? < SLOT {
         return Ok(None);
     }
-    Ok(Some(told_of(head.n, &slot[..length], reals, imags) == Some(head.given)))
+    Ok(Some(told_of(head.n, &slot[..length], reals, imags) == head.given))
 }

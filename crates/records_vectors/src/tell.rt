@@ -15,6 +15,7 @@ const UNTOUCHED: u8 = 0xee;
 const LEAST: u32 = 24;
 
 // How many floats a record of this code has: an angle's two, U's eight, a bit flip's two.
+// Stays: the code is one of the numbers that a flat record is.
 fn float_count(code: u32) -> usize {
     match code {
         1 | 2 | 3 | 4 | 10 | 11 => 0,

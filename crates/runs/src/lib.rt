@@ -65,6 +65,7 @@ pub struct Cut {
 }
 
 // u goes over the numbers that have all bits of wide, run by run; each stride-th of those is a key. TWO pairs go at a turn, or one.
+// Stays: a `while`: no range has such numbers.
 #[inline(always)]
 pub fn runs<R: Rule, const TWO: bool>(
     reals: &mut [f64],

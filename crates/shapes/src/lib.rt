@@ -6,6 +6,7 @@ ghost use Rattle.book.specs.Records.{parts, parts_of};
 
 use book::{Gate, Parts, Shape};
 
+// Stays: a gate's code is 01's number, and goes among a record's bytes.
 fn parts(code: u8, target: u8, shape: Shape) -> Parts
     ensures { result ≡ parts code target shape }
 {

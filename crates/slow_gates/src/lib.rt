@@ -1,5 +1,6 @@
 // The slow engine's calls: a gate from input buffers into separate output buffers of the same length, with the kernel's refusals. The outputs' lengths are
 // tested with the inputs'. SWAP and the bit flip are passed on, and there is none for measuring.
+// Stays: a call for each gate, as in gates.
 #![tactic(auto)]
 
 ghost use Rattle.book.specs.Answers.{Does};

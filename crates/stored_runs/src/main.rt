@@ -23,6 +23,7 @@ fn run_argument<T: Files + Print>(rt: &T, name: &str) -> io::Result<()> {
 }
 
 // Argument 0 is the program's own name.
+// Stays: cut_streams has these lines too, and says why.
 fn main(rt: HostRuntime) -> io::Result<()> {
     for name in env::args(&rt)?.skip(1) {
         run_argument(&rt, name.as_str())?;

@@ -18,6 +18,7 @@ use rules::UpperRule;
 
 // Block by block, those that hold a chosen place. A key has all fixed bits, and its place lies back below it: the fixed bits above the target are those
 // of a block's key, and the upper half of the block is from a to e; the fixed bits below the target are those of the keys within the half.
+// Stays: a `while`: no range has such keys.
 #[inline]
 fn turn_blocks<R: UpperRule>(
     reals: &mut [f64],
@@ -91,6 +92,7 @@ fn turn<R: UpperRule>(
 }
 
 // A gate that leaves s0 as it is: judged once, then turned block by block.
+// Stays: sweeps has another like it, and says why.
 #[inline]
 pub fn on_uppers<G: UpperRule + Fed>(
     reals: &mut [f64],

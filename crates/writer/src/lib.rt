@@ -40,6 +40,7 @@ fn size_of(shape: Shape) -> usize
 }
 
 // Fields 01 to 04.
+// Stays: a code is a number here, as it goes among the bytes.
 fn store_head(out: &mut [u8], session: u32, number: u16, code: u8, target: u8) -> usize
     requires { 20 ≤ length out.old }
     ensures { Stored (head_of session number code target) out.old 0 result out.new }

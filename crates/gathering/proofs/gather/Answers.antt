@@ -1,4 +1,5 @@
 -- `gathering::gather` meets its contract, by what the number stands for: where bytes are held, by what they begin. Assumes nothing.
+-- Stays: what two answers take by a `let` is of the goal's own record `c`; a lemma would take each of its parts as an argument.
 use Prim.Native.Nat.{ℕ, ◌<◌}
 use native.Mathlib.Omega.{arith}
 use mathlib.Core.List.{List, [], ◌++◌, append-nil}

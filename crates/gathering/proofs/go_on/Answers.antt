@@ -1,4 +1,5 @@
 -- `gathering::go_on` meets its contract, by what the bytes begin with: a frame that is begun is no longer than what it tells. Assumes nothing.
+-- Stays: what two answers take by a `let` is of the goal's own record `c`; a lemma would take each of its parts as an argument.
 use Prim.Native.Nat.{ℕ, ◌+◌, ◌<◌}
 use native.Mathlib.Omega.{arith}
 use mathlib.Core.List.{List, ◌++◌}

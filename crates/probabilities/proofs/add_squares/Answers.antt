@@ -1,4 +1,5 @@
 -- `probabilities::add_squares` meets its contract: one square more in each turn. Assumes nothing.
+-- Stays: what two answers take by a `let` is of the goal's own record `c`; a lemma would take each of its parts as an argument.
 use Prim.Native.Nat.{◌-◌, ◌<◌}
 use native.Mathlib.Omega.{arith}
 use Rattle.std.proofs.Common.{length-take, length-append}

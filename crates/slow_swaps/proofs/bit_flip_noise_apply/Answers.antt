@@ -1,4 +1,5 @@
 -- `slow_swaps::bit_flip_noise_apply` meets its contract: judged with its two numbers, then X at every index, or the inputs copied. Assumes nothing.
+-- Stays: what two answers take by a `let` is of the goal's own record `c`; a lemma would take each of its parts as an argument.
 use Prim.Native.Nat.{ℕ, ◌^◌, ◌<◌}
 use mathlib.Core.Path.{sym, ◌∙◌}
 use Rattle.std.proofs.Common.{rules}
