@@ -103,14 +103,22 @@ def by_hand():
 
 
 def facts():
-    """5: the head of a `requires` that three or more functions of one crate have; parameters, three or more, that three or more functions of one crate share."""
-    by = defaultdict(set)
+    """5: what a `requires` says in three or more functions of one crate: by its head, or word for word; parameters, three or more, that three or more of them share."""
+    by, params_of = defaultdict(set), defaultdict(dict)
     for p, f, params, clauses, body in fns:
         crate = p.split('/')[1]
         for m in re.finditer(r'requires \w*\s*\{(.*?)\}\s', clauses, re.S):
-            for h in re.findall(r'(?:^|[×(]) *([A-Z]\w+) ', m.group(1)):
-                by[crate, h].add(f)
+            for fact in ' '.join(m.group(1).split()).split(' × '):
+                fact = fact.strip().removeprefix('(').removesuffix(')') if '(' == fact.strip()[:1] else fact.strip()
+                head = re.match(r'[A-Z]\w+ ', fact)
+                by[crate, head.group(0).strip() if head else fact].add(f)
+        params_of[crate][p, f] = frozenset(' '.join(x.split()) for x in params.split(',') if ':' in x)
     out = [f'{c}: requires {h} in {len(v)} functions' for (c, h), v in sorted(by.items()) if len(v) >= 3]
+    for crate, all in sorted(params_of.items()):
+        sets = {a & b for a in all.values() for b in all.values()} | set(all.values())
+        sets = {x for x in sets if len(x) >= 3 and sum(x <= a for a in all.values()) >= 3}
+        for x in sorted((x for x in sets if not any(x < y for y in sets)), key=sorted):
+            out.append(f'{crate}: {", ".join(sorted(x))} in {sum(x <= a for a in all.values())} functions')
     return out
 
 

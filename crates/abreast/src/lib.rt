@@ -12,6 +12,7 @@ use fused::fused;
 use short::{Sides, all_meet, all_modest, are_fit, from_both_sides};
 
 // The upper part of k, or 0 where it has none, k being very large or very small, or where s is more than 2 in size.
+// Stays: 0 for none: an upper part is never 0, `Beside` says so for every caller, and a loop tests one number (docs/DECISIONS.md, 75).
 pub fn upper_beside(k: f64, s: f64) -> f64
     ensures { Beside k s result }
 {
@@ -28,7 +29,7 @@ pub fn upper(k: f64) -> f64
 }
 
 // What k and s make of (x,y): two F. half is the upper part of k.
-// Stays: the numbers come one by one, here and below, since a struct would go through memory, to be read as a whole before its parts have arrived.
+// Stays: the numbers come one by one, here and below: a struct went through memory, and was read as a whole before its parts had arrived.
 pub fn two(k: f64, s: f64, half: f64, x: f64, y: f64) -> Amplitude
     requires { Beside k s half }
     ensures { result ≡ times k s (amplitude x y) }

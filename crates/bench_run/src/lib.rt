@@ -1,5 +1,6 @@
 // The program: reads a header and frames from its input, and writes the lines of document 01 to standard output. The input has any size and comes in
 // any pieces. Here it reads and writes; what it makes of what it read, and what it hands on to be written, is program's.
+// Stays: two buffers side by side, at each function: as C lends them.
 #![tactic(auto)]
 
 ghost use Rattle.std.specs.Prelude.{ℕ, ◌≤◌, List, length, IfOk, OnOk};

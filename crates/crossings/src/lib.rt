@@ -11,6 +11,7 @@ use book::{Amplitude, Matrix};
 use matrices::write_at;
 
 // An index without its target bit: the two places of a pair share it.
+// Stays: the bound of target, here and below: no plainer as a type of one number, which a call would make and take apart again.
 fn without_target(target: u32, i: usize) -> usize
     requires { target < 6 }
     ensures { result ≡ without_target target i }

@@ -3,7 +3,7 @@ use feeding::Feed;
 use gathering::STOPPED;
 use wire::bits_of;
 
-// Stays: three lines that oracle_replay has too: a function of wire for two test programs would want a contract and an edit.
+// Stays: oracle_replay has it too: three lines, no plainer as a public function of a third crate.
 pub(crate) fn floats_differ(a: &[f64], b: &[f64]) -> bool {
     a.iter().zip(b).any(|(x, y)| bits_of(*x) != bits_of(*y))
 }

@@ -1,4 +1,5 @@
 // A form that takes bytes as they come, and makes each delivery when its frame is complete: it takes itself and a piece, and hands back the next one.
+// Stays: two buffers side by side, and pieces as bytes with their lengths: C lends the buffers so, and docs/PROMISES.md names the calls.
 #![tactic(auto)]
 
 ghost use Rattle.std.specs.Prelude.{◌≡◌, ◌++◌, ◌≤◌, length, drop, replicate};
@@ -33,6 +34,7 @@ pub struct Taken {
 }
 
 // The same for a caller who keeps the 97 bytes.
+// Stays: beside Taken: C keeps the 97 bytes, and lends them.
 #[derive(Clone, Copy)]
 pub struct Stepped {
     pub session: Session,

@@ -16,6 +16,7 @@ use runs::{Cut, runs};
 const LONG: usize = 32;
 
 // Neighbouring keys, in short runs, by a function of its own: in one with the other forms the compiler keeps too much outside the registers.
+// Stays: two buffers side by side, and a key's numbers one by one, here and below: C lends the buffers so, and a struct of the rest would be made for one call.
 #[inline(never)]
 fn short<R: Rule>(
     reals: &mut [f64],

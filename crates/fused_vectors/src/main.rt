@@ -28,6 +28,7 @@ struct Tally {
 }
 
 // The line that asks, which has what is wanted, and behind it what was got.
+// Stays: what is printed to, the line and the tally, here and below: no plainer as a struct, of which each function would change a part.
 fn show(rt: &impl Print, line: &[u8; 70], got: f64) -> io::Result<()> {
     rt.write_all(line)?;
     println!(rt; "{:016x} got", bits_of(got))

@@ -1,5 +1,5 @@
 // The kernels of gates.rs over two lent buffers, with 01's refusals. Each call is judged first; then its gate's rule is put to each chosen pair.
-// Stays: a call for each gate: README names them, and the archive exports them.
+// Stays: a call for each gate: docs/PROMISES.md names them, and the archive exports them.
 #![tactic(auto)]
 
 ghost use Rattle.book.specs.Answers.{Does};

@@ -1,2 +1,2 @@
--- What the field of the mask answers.
+-- What the field of the mask holds.
 pub mod Masks

@@ -36,9 +36,6 @@ pub(crate) enum Verdict {
 // No sampled state has more qubits.
 const MOST_SAMPLED: u8 = 6;
 
-// No operand has more places.
-pub(crate) const MOST_PLACES: usize = 64;
-
 fn kind_of(byte: u8) -> Option<Kind> {
     match byte {
         1 => Some(Kind::Record),
@@ -80,13 +77,10 @@ fn headed<R: Read>(input: &mut R, head: Head) -> io::Result<Verdict> {
     let Some((first, count)) = places(head) else {
         return Ok(Verdict::Unread);
     };
-    if MOST_PLACES < first || MOST_PLACES < count {
-        return Ok(Verdict::Unread);
-    }
     let Some(floats) = read_floats(input, first, count)? else {
         return Ok(Verdict::Unread);
     };
-    run_case(input, head, &floats, first, count)
+    run_case(input, head, &floats)
 }
 
 pub(crate) fn read_case<R: Read>(input: &mut R) -> io::Result<Verdict> {

@@ -1,16 +1,28 @@
 // The floats of a case, eight bytes each, the highest first: those of the first operand, of the second, and of what is wanted, reals and then imags.
 ghost use Rattle.std.specs.Prelude.{◌≤◌};
 
-use crate::case::MOST_PLACES;
 use reading::read_full;
 use std::io;
 use std::io::Read;
 use wire::{bits_of, float_of};
 
+// An operand's places, which are the first of so many.
 #[derive(Clone, Copy)]
 pub(crate) struct Part {
     pub(crate) reals: [f64; 64],
     pub(crate) imags: [f64; 64],
+    pub(crate) count: usize,
+    ghost few: { count ≤ 64 },
+}
+
+impl Part {
+    pub(crate) fn re(&self) -> &[f64] {
+        &self.reals[..self.count]
+    }
+
+    pub(crate) fn im(&self) -> &[f64] {
+        &self.imags[..self.count]
+    }
 }
 
 #[derive(Clone, Copy)]
@@ -32,14 +44,22 @@ fn fill<R: Read>(input: &mut R, floats: &mut [f64]) -> io::Result<bool> {
     Ok(true)
 }
 
-// None where the input ends before the last.
-fn read_part<R: Read>(input: &mut R, count: usize) -> io::Result<Option<Part>>
-    requires { count ≤ 64 }
-{
-    let mut reals = [0.0; MOST_PLACES];
-    let mut imags = [0.0; MOST_PLACES];
+// No operand has more places.
+const MOST_PLACES: usize = 64;
+
+// None of more places, or where the input ends before the last.
+fn read_part<R: Read>(input: &mut R, count: usize) -> io::Result<Option<Part>> {
+    if MOST_PLACES < count {
+        return Ok(None);
+    }
+    let mut reals = [0.0; 64];
+    let mut imags = [0.0; 64];
     if fill(input, &mut reals[..count])? && fill(input, &mut imags[..count])? {
-        return Ok(Some(Part { reals, imags }));
+        return Ok(Some(Part {
+            reals,
+            imags,
+            count,
+        }));
     }
     Ok(None)
 }
@@ -48,10 +68,7 @@ pub(crate) fn read_floats<R: Read>(
     input: &mut R,
     first: usize,
     count: usize,
-) -> io::Result<Option<Floats>>
-    requires first_bound { first ≤ 64 }
-    requires count_bound { count ≤ 64 }
-{
+) -> io::Result<Option<Floats>> {
     let Some(first) = read_part(input, first)? else {
         return Ok(None);
     };

@@ -1,5 +1,5 @@
 // The call of a case, and whether it leaves what is wanted, bit for bit.
-ghost use Rattle.std.specs.Prelude.{◌≤◌, ◌<◌, length};
+ghost use Rattle.std.specs.Prelude.{◌<◌};
 
 use crate::case::{Head, Kind, Verdict};
 use crate::floats::{Floats, Part, differ};
@@ -31,23 +31,16 @@ fn matrix_of(part: &Part) -> Matrix {
 }
 
 // A matrix call. A transposition changes the second operand, which stands in reals and imags; the others write over it.
-fn call(head: Head, floats: &Floats, first: usize, reals: &mut [f64], imags: &mut [f64]) -> Answer
-    requires first_bound { first ≤ 64 }
-    requires reals_len_bound { length reals.old ≤ 64 }
-{
+fn call(head: Head, floats: &Floats, reals: &mut [f64], imags: &mut [f64]) -> Answer {
     let n = u32::from(head.n);
-    let count = reals.len();
-    let ar = &floats.first.reals[..first];
-    let ai = &floats.first.imags[..first];
-    let br = &floats.second.reals[..count];
-    let bi = &floats.second.imags[..count];
+    let (a, b) = (&floats.first, &floats.second);
     match head.kind {
         Kind::GateMatrix => {
-            let matrix = matrix_of(&floats.first);
+            let matrix = matrix_of(a);
             from_single_qubit_gate(reals, imags, n, u32::from(head.given), matrix)
         }
-        Kind::Product => multiply(ar, ai, br, bi, reals, imags, n),
-        Kind::StateProduct => apply_unitary(ar, ai, br, bi, reals, imags, n),
+        Kind::Product => multiply(a.re(), a.im(), b.re(), b.im(), reals, imags, n),
+        Kind::StateProduct => apply_unitary(a.re(), a.im(), b.re(), b.im(), reals, imags, n),
         Kind::Transpose | Kind::Record => conj_t(reals, imags, n),
     }
 }
@@ -59,52 +52,33 @@ fn taken(answer: Answer) -> bool {
     }
 }
 
+// Stays: two buffers side by side, at each function: as C lends them.
 // Whether the call answers as it should; none where a record cannot be read.
 fn answers<R: Read>(
     input: &mut R,
     head: Head,
     floats: &Floats,
-    first: usize,
     reals: &mut [f64],
     imags: &mut [f64],
-) -> io::Result<Option<bool>>
-    requires first_bound { first ≤ 64 }
-    requires reals_len_bound { length reals.old ≤ 64 }
-{
+) -> io::Result<Option<bool>> {
     match head.kind {
         Kind::Record => deliver(input, head, reals, imags),
-        _ => Ok(Some(taken(call(head, floats, first, reals, imags)))),
+        _ => Ok(Some(taken(call(head, floats, reals, imags)))),
     }
 }
 
-pub(crate) fn run_case<R: Read>(
-    input: &mut R,
-    head: Head,
-    floats: &Floats,
-    first: usize,
-    count: usize,
-) -> io::Result<Verdict>
-    requires first_bound { first ≤ 64 }
-    requires count_bound { count ≤ 64 }
-{
-    let mut reals = floats.second.reals;
-    let mut imags = floats.second.imags;
-    let right = answers(
-        input,
-        head,
-        floats,
-        first,
-        &mut reals[..count],
-        &mut imags[..count],
-    )?;
-    let Some(right) = right else {
+pub(crate) fn run_case<R: Read>(input: &mut R, head: Head, floats: &Floats) -> io::Result<Verdict> {
+    let Part {
+        mut reals,
+        mut imags,
+        count,
+    } = floats.second;
+    let (re, im) = (&mut reals[..count], &mut imags[..count]);
+    let Some(right) = answers(input, head, floats, re, im)? else {
         return Ok(Verdict::Unread);
     };
     let wanted = &floats.wanted;
-    if !right
-        || differ(&reals[..count], &wanted.reals[..count])
-        || differ(&imags[..count], &wanted.imags[..count])
-    {
+    if !right || differ(&reals[..count], wanted.re()) || differ(&imags[..count], wanted.im()) {
         return Ok(Verdict::Different);
     }
     Ok(Verdict::Same)

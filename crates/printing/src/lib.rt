@@ -13,7 +13,7 @@ use book::Reply;
 use puts::put;
 
 // The D line of an answer.
-// Stays: a place in the buffer, as in puts; and a line made in each function: of a closure that makes it, it would have to be shown that it tells a length.
+// Stays: a place in the buffer, as in puts; and a line made in each function: no plainer by a closure, whose contract would say what the line's says.
 pub fn put_answer(out: &mut [u8], at: usize, index: u64, reply: Reply, count: u16) -> usize
     ensures { Put (delivery_line index (replies reply) count) out.old at result out.new }
 {

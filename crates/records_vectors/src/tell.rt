@@ -24,6 +24,7 @@ fn float_count(code: u32) -> usize {
     }
 }
 
+// Stays: numbers and floats side by side, here and below: so the archive lends a flat record.
 // Session, number, code, target; the mask, second qubit or outcome, which a bit flip has not; a measurement's reset.
 fn tell_fields(rt: &impl Print, fields: &[u32; 6]) -> io::Result<()> {
     for field in &fields[..4] {

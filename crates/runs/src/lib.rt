@@ -1,4 +1,4 @@
-// The chosen pairs run by run, for the gates that need no F: each run is lent as one part of both buffers.
+// The chosen pairs run by run, for the gates that need no F: each run is lent as one part of both buffers, as C lends them.
 // An inner room: its function asks for the cut of the fixed bits, and its callers are proved. Each is set in where it is called, with the numbers known there.
 #![tactic(auto)]
 
@@ -12,6 +12,7 @@ use rules::Rule;
 
 // One pair at a turn, at each stride-th place.
 // Stays: a `while`, here and below. `(0..run).step_by(stride)` tests the end twice a turn: with it X and Y took up to a third longer in short runs.
+// And a loop of its own for two pairs, which reads both before it writes.
 #[inline(always)]
 fn along<R: Rule>(
     reals: &mut [f64],

@@ -102,6 +102,7 @@ impl Session {
     }
 
     // Deliveries one after the other, which lie so in `bytes`; `lengths` says how many bytes each takes. Whatever comes, each record is run once.
+    // Stays: bytes and their lengths side by side: docs/PROMISES.md names the call, whose contract is of `cut bytes lengths`.
     pub fn deliver_all<E: Engine>(
         self,
         bytes: &[u8],

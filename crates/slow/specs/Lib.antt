@@ -1,2 +1,2 @@
--- What a gate leaves at each index, and what the engine asks.
+-- What the slow engine asks of its buffers.
 pub mod Slow

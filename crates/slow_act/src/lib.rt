@@ -1,4 +1,5 @@
 // A gate by the slow engine, in place: into a second state, and from there back over the first. So a session may be run by it.
+// Stays: two buffers side by side, at each function: as C lends them.
 #![tactic(auto)]
 
 ghost use Rattle.std.specs.Prelude.{◌&&◌, ◌≡◌};

@@ -39,6 +39,7 @@ fn becomes(x: f64, y: f64, z: f64, w: f64) -> Pair
 // The bits are 3FE6A09E667F3BCD.
 const H: f64 = 0.7071067811865476;
 
+// Stays: a, b, c and d one by one, here and below, as 01 writes the rules: each function would have to take a pair apart first.
 fn h(a: f64, b: f64, c: f64, d: f64) -> Pair
     ensures { result ≡ h_rule (Gates.becomes (a, b) (c, d)) }
 {

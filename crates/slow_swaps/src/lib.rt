@@ -1,4 +1,5 @@
 // SWAP and the bit flip by the slow engine: judged, then every index of the outputs.
+// Stays: two buffers side by side, at each function: as C lends them.
 #![tactic(auto)]
 
 ghost use Rattle.std.specs.Prelude.{◌++◌};

@@ -1,4 +1,5 @@
 // SWAP and the bit flip: judged, then their pairs exchanged by the sweep of X.
+// Stays: two buffers side by side, at each function: as C lends them.
 #![tactic(auto)]
 
 ghost use Rattle.std.specs.Prelude.{◌≤◌, ◌<◌, ◌≡◌};

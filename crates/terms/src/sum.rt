@@ -14,6 +14,7 @@ use rounding::{shift_to_odd, to_odd};
 const LIMB: u128 = 0x1_0000_0000_0000_0000;
 
 // s * 2^e.
+// Stays: roots has a like struct, of powers of four: each holds two numbers, and the clauses say what of.
 #[derive(Clone, Copy)]
 struct Scaled {
     s: u64,
@@ -21,6 +22,7 @@ struct Scaled {
 }
 
 // w * 2^e in 64 bits: the lower digits are cut off, and it is rounded to odd.
+// Stays: the bound of e, here and below: no plainer as a type of one number, which each call would make and take apart again.
 fn squeeze(w: u128, e: u64) -> Scaled
     requires { (w < 2 ^ 127) × (e < far binary64) }
     ensures { (result.s ≡ cut_to_odd w (size (upper w))) × (result.e ≡ e + size (upper w)) }
@@ -76,7 +78,7 @@ fn aligned(p: bool, w: u128, a: u64, t: bool, m: u64, b: u64) -> f64
     pack_sum(p, u128::from(cut), t, u128::from(m), b)
 }
 
-// The significands are moved up, a factor's by 11 digits and the addend's by 10: the product's lower limb is then full, and no wide shift is needed.
+// The significands are moved up, a factor's by 11 digits and the addend's by 10: the product's lower 64 are then full.
 // What the exponents count from is the working unit, with 16 digits to spare.
 const FACTOR_UP: u64 = 2048;
 

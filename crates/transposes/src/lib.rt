@@ -17,7 +17,7 @@ fn mirror_of(place: usize, side: usize) -> usize
 }
 
 // Two places, or one, exchanged and negated.
-// Stays: `Holds` at each function: it is of the two buffers that C lends.
+// Stays: `Holds` and the bound of side at each function: they are of the two buffers that C lends.
 fn cross(reals: &mut [f64], imags: &mut [f64], i: usize, j: usize)
     requires { Holds (i + 1) (here reals imags) × Holds (j + 1) (here reals imags) }
     ensures { Crossed i j (before reals imags) (after reals imags) }

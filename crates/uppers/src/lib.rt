@@ -1,4 +1,5 @@
 // Z and P leave s0 as it is: the upper half of each block of 2 * 2^target places is lent on and written there.
+// Stays: two buffers side by side, at each function: as C lends them.
 #![tactic(auto)]
 
 ghost use Rattle.std.specs.Prelude.{◌≡◌};
