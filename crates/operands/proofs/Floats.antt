@@ -8,7 +8,7 @@ use mathlib.Core.Bool.{Bool, true, false, not, cond, ◌&&◌, ◌||◌, beq}
 use borrow.Author.Tests.{eq-eqb, ne_eqb, eqb-true, eqb-false}
 use lib.IntN.{pos}
 use lib.Dec.{T, leb, eqb}
-use lib.Ieee.{Float, nan, inf, fin, Format, binary64, prec, low, up, down, odd, eq, fits, is_nan, hid, ones, top, div}
+use lib.Ieee.{Float, nan, inf, fin, Format, binary64, prec, low, up, down, odd, eq, fits, is_nan, hid, ones, top}
 use lib.Ieee.{of_fields, of_bits, to_bits}
 use lib.Ieee.Fits.{up_pos}
 use lib.Ieee.Bits.{of_bits-to_bits}
@@ -20,9 +20,15 @@ pub zero_is : of_bits binary64 0 ≡ fin false 0 (pos 0)
 unfolding of_bits
 zero_is = refl
 
-pub nan_is : div binary64 (of_bits binary64 0) (of_bits binary64 0) ≡ nan
-unfolding div of_bits
+pub nan_is : of_bits binary64 0x7ff8_0000_0000_0000 ≡ nan
+unfolding of_bits
 nan_is = refl
+
+pub one_nan : (x : Float) → is_nan x ≡ true → nan ≡ x
+unfolding is_nan
+one_nan nan e = refl
+one_nan (inf s) e = cc
+one_nan (fin s m d) e = cc
 
 zero_test : (s : Bool) (a b : ℕ) → b ≡ 0 → (eqb a b && (beq s false || eqb a 0)) ≡ eqb a 0
 zero_test s a b h = ap (λ (y : ℕ). eqb a y && (beq s false || eqb a 0)) h ∙ go (eqb a 0) (beq s false)

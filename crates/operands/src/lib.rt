@@ -10,12 +10,11 @@ ghost use Rattle.operands.specs.Operands.{is_zero, ordinary, Fields};
 
 use numbers::{HIDDEN, SIGN};
 
-// Neither NaN nor infinite: only then is x - x equal to itself.
+// Neither NaN nor infinite.
 pub fn is_finite(x: f64) -> bool
     ensures { result ≡ finite x }
 {
-    let d = x - x;
-    d == d
+    x.is_finite()
 }
 
 fn is_zero(x: f64) -> bool
@@ -30,12 +29,11 @@ pub fn is_ordinary(x: f64) -> bool
     is_finite(x) && !is_zero(x)
 }
 
-// The processor has many NaN, and makes one with a sign; the logic has one. So where one may arise, the literal stands in its place: the compiler works
-// 0.0 / 0.0 out, to 7FF8000000000000.
+// The processor has many NaN, and makes one with a sign; the logic has one. So where one may arise, std's stands in its place, 7FF8000000000000.
 pub fn with_one_nan(x: f64) -> f64
     ensures { result ≡ x }
 {
-    if x != x { 0.0 / 0.0 } else { x }
+    if x.is_nan() { f64::NAN } else { x }
 }
 
 // An ordinary number: m * 2^e smallest values, with a sign.

@@ -99,7 +99,7 @@ pub fn root(x: f64) -> f64
     ensures { result ≡ Def.root binary64 x }
 {
     if x < 0.0 {
-        return 0.0 / 0.0;
+        return f64::NAN;
     }
     let Some(p) = operands::unpack(x) else {
         return operands::with_one_nan(x);

@@ -26,8 +26,6 @@ const KEPT: u64 = BELOW + PRECISION;
 // A quarter of the smallest value lies so many digits above the working unit.
 const QUARTER: u64 = BELOW - 2;
 
-const MINUS_INFINITY: u64 = SIGN + INFINITY;
-
 // With this exponent or a higher one a count lies far beyond the largest f64, and below it no sum of exponents overflows.
 const FAR: u64 = 4160;
 
@@ -46,8 +44,7 @@ fn dropped(s: u64, e: u64) -> u64
     requires { e < far binary64 + 64 }
     ensures { result ≡ size s + e - (below binary64 + prec binary64) }
 {
-    let z = digits(s) + e;
-    if z < KEPT { 0 } else { z - KEPT }
+    (digits(s) + e).saturating_sub(KEPT)
 }
 
 // s * 2^e working units as quarters of 2^k smallest values, rounded to odd.
@@ -78,20 +75,8 @@ fn assemble(neg: bool, q: u64, k: u64) -> f64
     requires { Kept binary64 q k }
     ensures { result ≡ units binary64 neg q k }
 {
-    let bits = k * HIDDEN + q;
-    if bits < INFINITY {
-        if neg {
-            f64::from_bits(bits + SIGN)
-        } else {
-            f64::from_bits(bits)
-        }
-    } else {
-        if neg {
-            f64::from_bits(MINUS_INFINITY)
-        } else {
-            f64::from_bits(INFINITY)
-        }
-    }
+    let bits = (k * HIDDEN + q).min(INFINITY);
+    f64::from_bits(if neg { bits + SIGN } else { bits })
 }
 
 // The f64 nearest to s * 2^e working units, for an s above 0 and an e below FAR.

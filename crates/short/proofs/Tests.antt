@@ -1,6 +1,6 @@
 -- The code's tests. A NaN among the operands of a sum makes a NaN; and the blocks of exponents that the bits of a number begin with say whether it
 -- is in the window, and how large it is at most. Assumes nothing.
-use mathlib.Core.Path.{◌≡◌, refl, sym, ◌∙◌}
+use mathlib.Core.Path.{◌≡◌, refl, sym}
 use mathlib.Core.Logic.{◌⊎◌, inl, inr}
 use Prim.Native.Nat.{ℕ, suc, ◌+◌, ◌*◌, ◌/◌, ◌%◌, ◌^◌, ◌≤◌, ◌<◌}
 use native.Mathlib.Nat.{le_of_lt, lt_of_lt_of_le, eq-zero-or-pos}
@@ -8,8 +8,7 @@ use native.Mathlib.Omega.{arith}
 use mathlib.Core.Bool.{Bool, true, false, not, cond, ◌&&◌, true≢false}
 use lib.Dec.{T}
 use lib.Pow.{pow_mono, shl_lt}
-use lib.Ieee.{Float, nan, inf, fin, Format, binary32, binary64, prec, emax, low, hid, top, ne, add, fits, is_nan, to_bits}
-use lib.Ieee.Compare.{nan_differs}
+use lib.Ieee.{Float, nan, inf, fin, Format, binary32, binary64, prec, emax, low, hid, top, add, fits, is_nan, to_bits}
 use lib.Ieee.Fits as Fits
 use lib.Ieee.Scale.{finite}
 use Rattle.exact.specs.Window.{first, last, reach}
@@ -23,12 +22,6 @@ both true q h = (refl, h)
 both false q h = absurd (true≢false (sym h))
 
 -- ---- a NaN among the operands makes a NaN
-pub number : (x : Float) → ne x x ≡ false → T (not (is_nan x))
-unfolding is_nan
-number nan h = absurd (true≢false (sym nan_differs ∙ h))
-number (inf s) h = tt
-number (fin s m e) h = tt
-
 pub sum_numbers : (f : Format) (x y : Float) → T (not (is_nan (add f x y))) → T (not (is_nan x)) × T (not (is_nan y))
 unfolding add is_nan
 sum_numbers f nan nan h = absurd h

@@ -45,7 +45,7 @@ pub fn are_fit(k: f64, s: f64) -> bool
     ensures { result ≡ true → Near binary64 k × Under binary64 1 s }
 {
     let w = k + s;
-    if w != w {
+    if w.is_nan() {
         return false;
     }
     apart(k) + (apart(s) + 3) % 8 / 4 == 0
@@ -56,7 +56,7 @@ pub fn all_modest(a: f64, b: f64, c: f64, d: f64) -> bool
     ensures { result ≡ true → Modest binary64 a × Modest binary64 b × Modest binary64 c × Modest binary64 d }
 {
     let w = (a + c) + (b + d);
-    if w != w {
+    if w.is_nan() {
         return false;
     }
     apart(a) + apart(b) + apart(c) + apart(d) == 0

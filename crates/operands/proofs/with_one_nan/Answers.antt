@@ -1,9 +1,7 @@
--- `operands::with_one_nan` gives back what it got: only the NaN differs from itself, and 0/0 is that NaN. Assumes nothing.
-use mathlib.Core.Path.{sym, ◌∙◌, subst}
-use lib.Dec.{T}
-use lib.Ieee.Compare.{differs_from_itself}
-use Rattle.operands.proofs.Floats.{nan_is}
+-- `operands::with_one_nan` gives back what it got: the logic has one NaN. Assumes nothing.
+use mathlib.Core.Path.{sym, ◌∙◌}
+use Rattle.operands.proofs.Floats.{nan_is, one_nan}
 use Rattle.operands.proofs.with_one_nan.Goals as goal
 
-pub returns-then-x : goal.returns-then-x
-returns-then-x c = nan_is ∙ sym (differs_from_itself c.args.x (subst T (sym c.if-x.true) tt))
+pub returns-then-is_nan : goal.returns-then-is_nan
+returns-then-is_nan c = nan_is ∙ one_nan c.args.x (sym c.if-is_nan.ensures.value)

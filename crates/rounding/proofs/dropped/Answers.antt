@@ -3,5 +3,5 @@ use native.Mathlib.Omega.{arith}
 use lib.Ieee.Digits.{size-le}
 use Rattle.rounding.proofs.dropped.Goals as goal
 
-pub overflow_add-z : goal.overflow_add-z
-overflow_add-z c = omega (arith, size-le c.args.s 64 (omega arith))
+pub overflow_add-digits : goal.overflow_add-digits
+overflow_add-digits c = omega (arith, size-le c.args.s 64 (omega arith))
