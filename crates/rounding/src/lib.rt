@@ -40,6 +40,7 @@ pub fn digits(x: u64) -> u64
 }
 
 // How many digits of s * 2^e working units an f64 drops.
+// Stays: the bound of e, here and below: no plainer as a type of one number, which pack would make and each function take apart again.
 fn dropped(s: u64, e: u64) -> u64
     requires { e < far binary64 + 64 }
     ensures { result ≡ size s + e - (below binary64 + prec binary64) }
