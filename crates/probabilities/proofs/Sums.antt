@@ -159,16 +159,12 @@ module _ {n t o : ℕ} {b : Buffers} (ok : Seated n t uncontrolled b) where
         let so_far = rw size at (rw (half_offset o t either (small ok), bit_is ok) at e) in
         rw (bit_is ok, ← place) (block_done ok u (rw (shl_is n ok.fits) at l) either so_far)
 
--- ---- the probability, by the outcome
-
-pub chance_is : (n t : ℕ) (s : State) {outcome o : ℕ} {p : Float} → p ≡ summed t o s (2 ^ n) → o ≡ outcome → p ≡ probability n t outcome s
-unfolding probability
-chance_is n t s e by = e ∙ ap (λ (o : ℕ). summed t o s (2 ^ n)) by
+-- ---- the probability of another outcome
 
 -- no index has a bit of 2 or more
-pub chance_none : (n t outcome : ℕ) (s : State) → (outcome ≡ 0 → ⊥) → (outcome ≡ 1 → ⊥) → of_bits binary64 0 ≡ probability n t outcome s
+pub chance_none : (n t outcome : ℕ) (s : State) → 2 ≤ outcome → of_bits binary64 0 ≡ probability n t outcome s
 unfolding probability
-chance_none n t outcome s x y =
+chance_none n t outcome s l =
     sum_none t outcome s
-    ∙ sym (sum_skips t outcome s 0 (2 ^ n) (λ i a b e. omega arith))
+    ∙ sym (sum_skips t outcome s 0 (2 ^ n) (λ i a b e. omega (arith, l)))
     ∙ ap (summed t outcome s) (let e : 0 + 2 ^ n ≡ 2 ^ n = omega arith in e)

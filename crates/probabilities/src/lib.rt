@@ -39,15 +39,13 @@ fn sum_half(reals: &[f64], imags: &[f64], n: u32, target: u32, outcome: u8) -> f
 }
 
 // p0 or p1. No place has another bit, so that another outcome's sum stays 0.0.
+#[tactic(auto, unfolding(book::specs::Measuring::probability))]
 pub fn chance(reals: &[f64], imags: &[f64], n: u32, target: u32, outcome: u8) -> f64
     requires { Seated n target uncontrolled (shown_here reals imags) }
     ensures { result ≡ probability n target outcome (at (shown reals imags)) }
 {
-    if outcome == 0 {
-        return sum_half(reals, imags, n, target, 0);
-    }
-    if outcome == 1 {
-        return sum_half(reals, imags, n, target, 1);
+    if outcome < 2 {
+        return sum_half(reals, imags, n, target, outcome);
     }
     0.0
 }
