@@ -13,6 +13,8 @@ pub mod Roots
 -- a format's values, in bits and as counts of its smallest value
 pub mod BitsOf
 pub mod Counts
+-- the logic has one NaN
+pub mod Nan
 -- the theorems: the rounding is to the nearest, so is the root's, and no two values are nearest
 pub mod Rounding
 pub mod RootRounding

@@ -24,12 +24,6 @@ pub nan_is : of_bits binary64 0x7ff8_0000_0000_0000 ≡ nan
 unfolding of_bits
 nan_is = refl
 
-pub one_nan : (x : Float) → is_nan x ≡ true → nan ≡ x
-unfolding is_nan
-one_nan nan e = refl
-one_nan (inf s) e = cc
-one_nan (fin s m d) e = cc
-
 zero_test : (s : Bool) (a b : ℕ) → b ≡ 0 → (eqb a b && (beq s false || eqb a 0)) ≡ eqb a 0
 zero_test s a b h = ap (λ (y : ℕ). eqb a y && (beq s false || eqb a 0)) h ∙ go (eqb a 0) (beq s false)
   where

@@ -1,11 +1,11 @@
 -- The code's tests. A NaN among the operands of a sum makes a NaN; and the blocks of exponents that the bits of a number begin with say whether it
 -- is in the window, and how large it is at most. Assumes nothing.
-use mathlib.Core.Path.{◌≡◌, refl, sym}
+use mathlib.Core.Path.{◌≡◌}
 use mathlib.Core.Logic.{◌⊎◌, inl, inr}
 use Prim.Native.Nat.{ℕ, suc, ◌+◌, ◌*◌, ◌/◌, ◌%◌, ◌^◌, ◌≤◌, ◌<◌}
 use native.Mathlib.Nat.{le_of_lt, lt_of_lt_of_le, eq-zero-or-pos}
 use native.Mathlib.Omega.{arith}
-use mathlib.Core.Bool.{Bool, true, false, not, cond, ◌&&◌, true≢false}
+use mathlib.Core.Bool.{Bool, true, false, not, cond}
 use lib.Dec.{T}
 use lib.Pow.{pow_mono, shl_lt}
 use lib.Ieee.{Float, nan, inf, fin, Format, binary32, binary64, prec, emax, low, hid, top, add, fits, is_nan, to_bits}
@@ -15,11 +15,6 @@ use Rattle.exact.specs.Window.{first, last, reach}
 use Rattle.exact.specs.Steps.{Near, Under}
 use Rattle.exact.proofs.Written.{Written, written, place_under}
 use Rattle.short.specs.Steps.{Block}
-
--- ---- two tests at once
-pub both : (p q : Bool) → (p && q) ≡ true → (p ≡ true) × (q ≡ true)
-both true q h = (refl, h)
-both false q h = absurd (true≢false (sym h))
 
 -- ---- a NaN among the operands makes a NaN
 pub sum_numbers : (f : Format) (x y : Float) → T (not (is_nan (add f x y))) → T (not (is_nan x)) × T (not (is_nan y))

@@ -3,4 +3,3 @@ pub mod Numbers
 pub mod Floats
 pub mod Fields
 pub mod After
-mod Nan

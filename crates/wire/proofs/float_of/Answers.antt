@@ -6,7 +6,7 @@ use lib.Dec.{T}
 use lib.Ieee.{binary64, of_bits, nan_bits}
 use lib.Ieee.Bits.{nan_bits_is, nan_bits_above}
 use borrow.Author.Tests.{lt-ltb, le-ltb}
-use Rattle.wire.proofs.Nan.{one_nan}
+use Rattle.numbers.proofs.Nan.{one_nan}
 use Rattle.wire.proofs.float_of.Goals as goal
 
 the_nan : (n : ℕ) → 0x7ff0_0000_0000_0000 < n % 0x8000_0000_0000_0000 → of_bits binary64 0x7ff8_0000_0000_0000 ≡ of_bits binary64 n
