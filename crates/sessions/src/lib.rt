@@ -16,7 +16,7 @@ use once::next_size;
 use standing::stand;
 
 // n qubits, the session's number, the count of records taken, the value of the last of them, and the mark over their bytes.
-#[derive(Clone, Copy)]
+#[derive(Clone, Copy, PartialEq)]
 pub struct Session {
     pub n: u32,
     pub number: u32,
