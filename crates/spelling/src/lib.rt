@@ -12,6 +12,7 @@ use reader::read_record;
 use writer::write_record;
 
 // The bytes as a record: 8 if they are none; then 12 if fewer places are lent than a record's numbers take.
+// Stays: no plainer: two tests, here and below: an inner function that answers by ? would say the contract of each call once more, of its Result.
 pub fn read_numbers(bytes: &[u8], fields: &mut [u32], numbers: &mut [f64]) -> u32
     ensures { Reads (read_record bytes.now) fields.old numbers.old result fields.new numbers.new }
 {
