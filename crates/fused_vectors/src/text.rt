@@ -3,7 +3,10 @@
 // A space and 16 hex digits in lower case: `from_str_radix` by itself would take upper case and a sign too.
 fn word(bytes: &[u8]) -> Option<u64> {
     let digits = bytes.strip_prefix(b" ")?;
-    if !digits.iter().all(|b| matches!(*b, b'0'..=b'9' | b'a'..=b'f')) {
+    if !digits
+        .iter()
+        .all(|b| matches!(*b, b'0'..=b'9' | b'a'..=b'f'))
+    {
         return None;
     }
     u64::from_str_radix(str::from_utf8(digits).ok()?, 16).ok()
