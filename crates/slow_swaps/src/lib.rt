@@ -2,7 +2,7 @@
 // Stays: two buffers side by side, at each function: as C lends them.
 #![tactic(auto)]
 
-ghost use Rattle.std.specs.Prelude.{◌++◌};
+ghost use Rattle.std.specs.Prelude.{◌≡◌, ◌++◌, length};
 ghost use Rattle.book.specs.Answers.{Does};
 ghost use Rattle.book.specs.Lent.{before, after, shown};
 ghost use Rattle.book.specs.declared.Gate.TheVariants as Gate;
@@ -48,6 +48,16 @@ pub fn swap_apply(
     Ok(None)
 }
 
+// A part of the inputs. Stays: a loop: `copy_from_slice` is C's memmove, which the archive would need from outside.
+fn copy(from: &[f64], to: &mut [f64])
+    requires { length from.now ≡ length to.old }
+    ensures { to.new ≡ from.now }
+{
+    for i in 0..to.len() {
+        to[i] = from[i];
+    }
+}
+
 // X without controls if draw <= prob, else nothing, and the outputs are the inputs; the answer is 1 if X ran, 0 if not.
 pub fn bit_flip_noise_apply(
     sr: &[f64],
@@ -67,7 +77,7 @@ pub fn bit_flip_noise_apply(
         fill(place, n, reals, imags);
         return Ok(Some(1));
     }
-    reals.copy_from_slice(sr);
-    imags.copy_from_slice(si);
+    copy(sr, reals);
+    copy(si, imags);
     Ok(Some(0))
 }

@@ -31,21 +31,21 @@ returns-then-noise c =
     flip_ran _ _ c.args.noise _ _ c.in_ok-judge.ensures c.in_ok-numbers.ensures c.if-noise.true c.fill.ensures.size
     (λ i h. let k = c.fill.ensures.places i h in search rules)
 
-pub copy_from_slice-requires : goal.copy_from_slice-requires
-copy_from_slice-requires c =
+pub copy-requires : goal.copy-requires
+copy-requires c =
     let a = c.args in
     let i : Sized a.n (shown_here a.sr a.si) = inputs _ _ _ (here a.reals a.imags) c.in_ok-judge.ensures in
     let o : Sized a.n (here a.reals a.imags) = outputs _ _ (shown_here a.sr a.si) _ c.in_ok-judge.ensures in
-    o.reals ∙ sym i.reals
+    i.reals ∙ sym o.reals
 
-pub copy_from_slice-requires-2 : goal.copy_from_slice-requires-2
-copy_from_slice-requires-2 c =
+pub copy-requires-2 : goal.copy-requires-2
+copy-requires-2 c =
     let a = c.args in
     let i : Sized a.n (shown_here a.sr a.si) = inputs _ _ _ (here a.reals a.imags) c.in_ok-judge.ensures in
     let o : Sized a.n (here a.reals a.imags) = outputs _ _ (shown_here a.sr a.si) _ c.in_ok-judge.ensures in
-    o.imags ∙ sym i.imags
+    i.imags ∙ sym o.imags
 
 pub returns : goal.returns
 returns c =
-    rw (c.copy_from_slice.ensures.after, c.copy_from_slice-2.ensures.after)
+    rw (c.copy.ensures, c.copy-2.ensures)
     (flip_not _ _ c.args.noise _ _ c.in_ok-judge.ensures c.in_ok-numbers.ensures c.if-noise.false)
