@@ -116,7 +116,6 @@ fn u(angles: Angles, a: f64, b: f64, c: f64, d: f64) -> Pair
 
 impl Rule {
     // What the rule makes of a pair. X exchanges s0 and s1.
-    #[inline]
     pub fn put(self, ab: Amplitude, cd: Amplitude) -> Pair
         ensures { result ≡ rule_of self (pair ab cd) }
     {

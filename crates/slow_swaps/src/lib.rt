@@ -73,7 +73,9 @@ pub fn bit_flip_noise_apply(
     judge(sr, si, reals, imags, n, target)?;
     numbers(&[noise.prob, noise.draw])?;
     if noise.draw <= noise.prob {
-        let place = |i| place_of_pair(Rule::X, target, Controls::of(0), sr, si, i);
+        // Outside, since a rule that is made within is made at each index.
+        let rule = Rule::X;
+        let place = |i| place_of_pair(rule, target, Controls::of(0), sr, si, i);
         fill(place, n, reals, imags);
         return Ok(Some(1));
     }
