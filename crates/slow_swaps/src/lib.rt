@@ -2,19 +2,16 @@
 // Stays: two buffers side by side, at each function: as C lends them.
 #![tactic(auto)]
 
-ghost use Rattle.std.specs.Prelude.{ℕ, ◌≡◌, ◌^◌, ◌<◌, ◌++◌, length};
+ghost use Rattle.std.specs.Prelude.{◌≡◌, ◌++◌, length};
 ghost use Rattle.book.specs.Answers.{Does};
-ghost use Rattle.book.specs.Lent.{before, after, here, shown, shown_here, SameSize};
-ghost use Rattle.book.specs.State.{at, uncontrolled, placed};
+ghost use Rattle.book.specs.Lent.{before, after, shown};
 ghost use Rattle.book.specs.declared.Gate.TheVariants as Gate;
 ghost use Rattle.into.specs.Into.{into_tests, into};
 ghost use Rattle.seated.specs.Judging.{Judges, free_tests};
-ghost use Rattle.slow_rules.specs.Rules.{rule_of};
-ghost use Rattle.slow.specs.Slow.{Reaches, Sized};
 
 use book::{Answer, Controls, Noise, Refusal};
 use judging::{free_seat, numbers, size};
-use slow::{fill, place_of_pair, place_of_swap};
+use slow::{fill, fill_pairs, place_of_swap};
 use slow_rules::Rule;
 
 // Tests 1 to 3: the size of the outputs, and then the inputs' with a qubit.
@@ -51,27 +48,6 @@ pub fn swap_apply(
     Ok(None)
 }
 
-// A rule without controls, at every index. By a call of its own, to which the rule is lent: where it is known, the compiler makes it anew at each index, and a
-// flip took half as long again.
-#[inline(never)]
-fn fill_pairs(
-    rule: Rule,
-    n: u32,
-    target: u32,
-    sr: &[f64],
-    si: &[f64],
-    reals: &mut [f64],
-    imags: &mut [f64],
-)
-    requires outputs { Sized n (here reals imags) }
-    requires inputs { (i : ℕ) → i < 2 ^ n → Reaches target target (shown_here sr si) i }
-    ensures size { SameSize (before reals imags) (after reals imags) }
-    ensures places { (i : ℕ) → i < 2 ^ n → at (after reals imags) i ≡ placed (rule_of rule) target uncontrolled (at (shown sr si)) i }
-{
-    let place = |i| place_of_pair(rule, target, Controls::of(0), sr, si, i);
-    fill(place, n, reals, imags);
-}
-
 // A part of the inputs. Stays: a loop: `copy_from_slice` is C's memmove, which the archive would need from outside.
 fn copy(from: &[f64], to: &mut [f64])
     requires { length from.now ≡ length to.old }
@@ -97,7 +73,7 @@ pub fn bit_flip_noise_apply(
     judge(sr, si, reals, imags, n, target)?;
     numbers(&[noise.prob, noise.draw])?;
     if noise.draw <= noise.prob {
-        fill_pairs(Rule::X, n, target, sr, si, reals, imags);
+        fill_pairs(Rule::X, n, target, Controls::of(0), sr, si, reals, imags);
         return Ok(Some(1));
     }
     copy(sr, reals);

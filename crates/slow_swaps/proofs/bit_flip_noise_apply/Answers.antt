@@ -1,6 +1,7 @@
 -- `slow_swaps::bit_flip_noise_apply` meets its contract: judged with its two numbers, then X at every index, or the inputs copied. Assumes nothing.
 -- Stays: what two answers take by a `let` is of the goal's own record `c`; a lemma would take each of its parts as an argument.
 use mathlib.Core.Path.{sym, ◌∙◌}
+use Rattle.std.proofs.Common.{rules}
 use Rattle.std.proofs.lemmas.Result.{err_from_is_err_and}
 use Rattle.book.specs.Lent.{here, shown_here}
 use Rattle.slow.specs.Slow.{Sized}
@@ -28,7 +29,8 @@ fill_pairs-requires c =
 pub returns-then-noise : goal.returns-then-noise
 returns-then-noise c =
     let made = c.fill_pairs.ensures in
-    flip_ran _ _ c.args.noise _ _ c.in_ok-judge.ensures c.in_ok-numbers.ensures c.if-noise.true made.size made.places
+    flip_ran _ _ c.args.noise _ _ c.in_ok-judge.ensures c.in_ok-numbers.ensures c.if-noise.true made.size
+    (λ i h. let k = made.places i h in search (rules, c.of.ensures))
 
 pub copy-requires : goal.copy-requires
 copy-requires c =

@@ -1,6 +1,6 @@
--- `slow_swaps::fill_pairs` meets its contract: at each index its closure leaves what the rule does. Assumes nothing.
+-- `slow::fill_pairs` meets its contract: at each index its closure leaves what the rule does. Assumes nothing.
 use Rattle.std.proofs.Common.{rules}
-use Rattle.slow_swaps.proofs.fill_pairs.Goals as goal
+use Rattle.slow.proofs.fill_pairs.Goals as goal
 
 pub fill-requires : goal.fill-requires
 fill-requires c = record { outputs = c.requires.outputs; each = let reach = c.requires.inputs in search (rules, reach) }
