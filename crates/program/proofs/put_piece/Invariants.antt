@@ -14,7 +14,8 @@ run s kept held index = record { index = index; form = form (meant s) kept held 
 abbrev pub invariant-loop-rest : goal.invariant-loop-rest
 invariant-loop-rest g l =
     (l.initial.index < 2 ^ 64)
-    × Going (run l.initial.session l.initial.kept l.initial.held l.initial.index) (buffers l.initial.reals l.initial.imags) l.piece l.initial.out l.behind l.rest
+    × Going (run l.initial.session l.initial.kept l.initial.held l.initial.index) (buffers l.initial.reals l.initial.imags) l.piece l.initial.out l.behind
+    l.rest
     (run l.session l.kept l.held l.index) (buffers l.reals l.imags) l.at l.out
 
 abbrev pub decreases-loop-rest : goal.decreases-loop-rest
