@@ -60,7 +60,8 @@ fn take_input<E: Engine, R: Read, W: Write>(
     Ok(end)
 }
 
-// CUT, the A lines and END.
+// CUT, the A lines and END. Set into its caller: there its buffer and that of the turns have one place on the stack, and else one lay above the other.
+#[inline(always)]
 fn write_closing<W: Write>(
     output: &mut W,
     end: Running,

@@ -3,8 +3,7 @@
 
 ghost use Rattle.std.specs.Prelude.{◌≡◌};
 ghost use Rattle.book.specs.Answers.{replies};
-ghost use Rattle.seated.specs.Judging.{ruled};
-ghost use Rattle.counting.specs.Counts.{Counts, behind, Passes};
+ghost use Rattle.counting.specs.Counts.{Counts, refused_for, behind, Passes};
 
 use book::{Answer, Refusal, Reply};
 use marks::marked;
@@ -50,21 +49,21 @@ pub fn ran(
 }
 
 // What the size is refused for comes before a reply.
-fn behind(size: Result<(), Refusal>, reply: Reply) -> Reply
-    ensures { replies result ≡ behind (ruled size) (replies reply) }
+fn behind<T: Copy>(size: Result<T, Refusal>, reply: Reply) -> Reply
+    ensures { replies result ≡ behind (refused_for size) (replies reply) }
 {
     match size {
-        Ok(()) => reply,
+        Ok(_) => reply,
         Err(refusal) => Reply::Said(Err(refusal)),
     }
 }
 
-// A record that was not run leaves all three.
-pub fn passed(
+// A record that was not run leaves all three. Its size is a judge's ruling, or an answer, whatever its value.
+pub fn passed<T: Copy>(
     count: u16,
     value: Option<u8>,
     mark: u32,
-    size: Result<(), Refusal>,
+    size: Result<T, Refusal>,
     reply: Reply,
 ) -> Counted
     ensures { Passes count value mark size reply result }

@@ -20,12 +20,12 @@ fn without_target(target: u32, i: usize) -> usize
     i - (i >> target) % 2 * bit
 }
 
-// The entry at a row and a column.
-fn crossing_at(matrix: Matrix, target: u32, row: usize, column: usize) -> Amplitude
+// The entry at a row and a column. The matrix is lent: by value it was stored anew for each place.
+fn crossing_at(matrix: &Matrix, target: u32, row: usize, column: usize) -> Amplitude
     requires { target < 6 }
-    ensures { result ≡ crossing matrix target row column }
+    ensures { result ≡ crossing matrix.now target row column }
 {
-    let entries = matrix.entries;
+    let entries = &matrix.entries;
     if without_target(target, row) != without_target(target, column) {
         return Amplitude { re: 0.0, im: 0.0 };
     }
@@ -43,7 +43,7 @@ pub fn fill_crossings(
     ensures { Filled 0 (side * side) (λ k. crossing matrix target (k / side) (k % side)) (before reals imags) (after reals imags) }
 {
     for place in 0..side * side {
-        let z = crossing_at(matrix, target, place / side, place % side);
+        let z = crossing_at(&matrix, target, place / side, place % side);
         write_at(reals, imags, place, z);
     }
 }

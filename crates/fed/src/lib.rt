@@ -9,7 +9,7 @@ ghost use Rattle.book.specs.Kernels.{size_tests, seat_tests};
 ghost use Rattle.book.specs.Lent.{shown};
 ghost use Rattle.seated.specs.Judging.{Judges};
 
-use book::{ANY, Angle, Controls, Refusal};
+use book::{ANY, Angle, Angles, Controls, Refusal};
 use fused_rules::{P, Rz};
 use rules::{H, Rx, Ry, X, Y, Z};
 use u_rules::U;
@@ -154,7 +154,21 @@ impl Fed for U {
     const MOST: u32 = 1; // U's
 
     fn own(self) -> Result<(), Refusal> {
-        let g = self.angles;
-        judging::numbers(&[g.ct, g.st, g.cl, g.sl, g.cpl, g.spl, g.cp, g.sp])
+        self.angles.own()
+    }
+}
+
+// What U is made of, so that it can be judged before U's matrix and their upper parts are worked out.
+impl Fed for Angles {
+    ghost MOST = { 1 };
+
+    ghost own = { λ g. finite_tests (angles_of g) };
+
+    const MOST: u32 = 1; // U's, too
+
+    fn own(self) -> Result<(), Refusal> {
+        judging::numbers(&[
+            self.ct, self.st, self.cl, self.sl, self.cpl, self.spl, self.cp, self.sp,
+        ])
     }
 }

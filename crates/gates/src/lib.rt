@@ -8,10 +8,11 @@ ghost use Rattle.book.specs.Lent.{before, after};
 ghost use Rattle.book.specs.declared.Gate.TheVariants as Gate;
 
 use book::{Angle, Angles, Answer, Controls, Noise};
+use fed::judge;
 use fused_rules::{P, Rz};
 use rules::{H, Rx, Ry, X, Y, Z};
 use swaps::{flip_bit, swap_bits};
-use sweeps::on_pairs;
+use sweeps::{on_pairs, put_chosen};
 use u_rules::U;
 use uppers::on_uppers;
 
@@ -134,7 +135,9 @@ pub fn u_apply(
 ) -> Answer
     ensures { Does (act n (Gate.U target controls angles) (before reals imags)) result (after reals imags) }
 {
-    on_pairs(reals, imags, n, target, controls, U::of(angles))
+    judge(reals, imags, n, target, controls, angles)?;
+    put_chosen(reals, imags, n, target, controls, U::of(angles));
+    Ok(None)
 }
 
 // Amplitudes exchanged whose indices differ by exchanging the bits t0 and t1; a qubit with itself changes nothing.

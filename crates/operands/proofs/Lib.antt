@@ -1,4 +1,6 @@
 -- The laws behind the tests of an operand and its fields. Assumes nothing.
 
--- the tests of a float, and an ordinary number's fields
+-- x - x tells whether x is finite
+pub mod Finite
+-- the other tests of a float, and an ordinary number's fields
 pub mod Floats

@@ -10,11 +10,11 @@ ghost use Rattle.operands.specs.Operands.{is_zero, ordinary, Fields};
 
 use numbers::{HIDDEN, SIGN};
 
-// Neither NaN nor infinite.
+// Neither NaN nor infinite: only then is x - x a number. std's own test compares that with 0 besides, and F of a zero addend took half as long again with it.
 pub fn is_finite(x: f64) -> bool
     ensures { result ≡ finite x }
 {
-    x.is_finite()
+    !(x - x).is_nan()
 }
 
 fn is_zero(x: f64) -> bool

@@ -69,6 +69,10 @@ pub(crate) fn read_floats<R: Read>(
     first: usize,
     count: usize,
 ) -> io::Result<Option<Floats>> {
+    // Before anything is read: a case that is too large is told at once.
+    if MOST_PLACES < first || MOST_PLACES < count {
+        return Ok(None);
+    }
     let Some(first) = read_part(input, first)? else {
         return Ok(None);
     };

@@ -11,7 +11,7 @@ ghost use Rattle.program.specs.Program.{fresh, run_of, Prints};
 
 use act::Engine;
 use book::Reply;
-use feeding::Feed;
+use feeding::{Feed, take_piece};
 use once::next_size;
 use printing::{put_answer, put_closing};
 use sessions::Session;
@@ -79,21 +79,29 @@ pub fn put_piece<E: Engine>(
     ensures { Prints (run_of from) (before reals imags) piece.now out.old behind
         (run_of result.next) (after reals imags) result.at out.new }
 {
-    let Running {
-        mut feed,
-        mut index,
-    } = from;
+    let Feed {
+        mut session,
+        mut kept,
+        mut held,
+    } = from.feed;
+    let mut index = from.index;
     let mut at = next_size(behind, out.len());
-    // Stays: it goes on by what a call used.
+    // Stays: it goes on by what a call used. And the form's parts side by side: by value its 97 bytes would be copied for each frame.
     let mut rest = piece;
     while !rest.is_empty() {
-        let taken = feed.take::<E>(rest, reals, imags);
-        feed = taken.next;
-        let placed = put_told(out, at, index, taken.told, feed.session.count);
+        let fed = take_piece::<E>(session, kept, &mut held, rest, reals, imags);
+        session = fed.session;
+        kept = fed.kept;
+        let placed = put_told(out, at, index, fed.told, session.count);
         at = placed.at;
         index = placed.index;
-        rest = rest.split_at(taken.used).1;
+        rest = rest.split_at(fed.used).1;
     }
+    let feed = Feed {
+        session,
+        kept,
+        held,
+    };
     Printed {
         next: Running { feed, index },
         at,

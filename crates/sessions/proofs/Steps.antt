@@ -3,7 +3,7 @@
 use Prim.Native.Nat.{ℕ, zero, suc, ◌+◌}
 use mathlib.Core.Bool.{Bool, true, false, cond}
 use mathlib.Core.List.{List, ◌++◌}
-use Rattle.std.specs.Prelude.{Option, Some, None}
+use Rattle.std.specs.Prelude.{Option, Some, None, Ok, Err}
 use mathlib.Core.Path.{◌≡◌, refl, sym, ap, ap₂, ◌∙◌}
 use Rattle.book.proofs.Calls.{refused_keeps, sized_right, sized_wrong}
 use Rattle.book.proofs.Refusals.{sizes_numbered}
@@ -15,8 +15,8 @@ use Rattle.book.specs.Sessions as Book
 use Rattle.book.specs.Sessions.{marked, raised, kept, counted, standing, take_record, take_read, deliver}
 use Rattle.book.specs.declared.Record.{Record}
 use Rattle.book.specs.declared.Reply.{Reply}
-use Rattle.seated.specs.Judging.{Ruling, Judges}
-use Rattle.counting.specs.Counts.{kept_by, Counts, behind, Passes}
+use Rattle.seated.specs.Judging.{Ruling, ruled, Judges}
+use Rattle.counting.specs.Counts.{kept_by, Counts, refused_for, behind, Passes}
 use Rattle.counting.specs.declared.Counted.{Counted}
 use Rattle.sessions.specs.Deliveries.{meant, told, unsized, Delivers}
 use Rattle.sessions.specs.declared.Delivered.{Delivered}
@@ -61,6 +61,11 @@ module _ (s : Book.Session) (b : Buffers) (bytes : List ℕ) where
 pub by_is : {d d' : Book.Delivery} {a : Delivered} {b : Buffers} → d' ≡ d → Delivers d a b → Delivers d' a b
 by_is e h = rw e h
 
+-- a judge's ruling is refused for what it is ruled
+ruling_is : (size : Ruling) → refused_for size ≡ ruled size
+ruling_is (Ok u) = refl
+ruling_is (Err r) = refl
+
 -- what a gate's answer makes of the value that is kept: a taken one's own takes its place
 kept_by_lem : (k : ℕ) (b : Buffers) (c : Call) (v : Option ℕ) → kept_by (unless k b c).says v ≡ cond (accepts (unless k b c).says) c.answer v
 kept_by_lem zero b c v = by c.answer
@@ -81,8 +86,8 @@ module _ (s : Session) (b : Buffers) {a : Delivered} {k : Counted} (e : a ≡ to
   -- the record was not run
   pub passes : {x : Reply} {size : Ruling} → Judges (size_tests s.n b) size → Passes s.count s.value s.mark size x k
       → Delivers (unsized (meant s) b (replies x)) a b
-  passes {x} j p =
-      let reply = p.reply ∙ ap (λ (y : ℕ). behind y (replies x)) j.is in
+  passes {x} {size} j p =
+      let reply = p.reply ∙ ap (λ (y : ℕ). behind y (replies x)) (ruling_is size ∙ j.is) in
       rw e (record { next = search (next_is p.counts p.value p.marks); reply = search reply; count = search p.counts; leaves = refl })
 
   -- its gate was run; the bytes of one that was taken are those that it is written as

@@ -71,3 +71,24 @@ pub fn fill<F: Fn(usize) -> Amplitude>(place: F, n: u32, reals: &mut [f64], imag
         write_at(reals, imags, i, place(i));
     }
 }
+
+// ... by a rule put to the chosen pairs. By a call of its own, for whoever has a rule: set into a caller that knows its controls, it took half as long again.
+#[inline(never)]
+pub fn fill_pairs(
+    rule: Rule,
+    n: u32,
+    target: u32,
+    controls: Controls,
+    sr: &[f64],
+    si: &[f64],
+    reals: &mut [f64],
+    imags: &mut [f64],
+)
+    requires outputs { Sized n (here reals imags) }
+    requires inputs { (i : ℕ) → i < 2 ^ n → Reaches target target (shown_here sr si) i }
+    ensures size { SameSize (before reals imags) (after reals imags) }
+    ensures places { (i : ℕ) → i < 2 ^ n → at (after reals imags) i ≡ placed (rule_of rule) target controls (at (shown sr si)) i }
+{
+    let place = |i| place_of_pair(rule, target, controls, sr, si, i);
+    fill(place, n, reals, imags);
+}

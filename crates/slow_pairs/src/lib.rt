@@ -8,7 +8,7 @@ ghost use Rattle.slow_pairs.specs.Rows.{rule_call};
 
 use book::{Answer, Controls};
 use judging::{seat, size};
-use slow::{fill, place_of_pair};
+use slow::fill_pairs;
 use slow_rules::Rule;
 
 // A gate that has a rule: judged, and then every index of the outputs.
@@ -27,8 +27,7 @@ pub fn on_pairs(
 {
     size(reals, imags, n)?;
     seat(sr, si, n, target, controls, rule.most())?;
-    let place = |i| place_of_pair(rule, target, controls, sr, si, i);
     rule.judge()?;
-    fill(place, n, reals, imags);
+    fill_pairs(rule, n, target, controls, sr, si, reals, imags);
     Ok(None)
 }

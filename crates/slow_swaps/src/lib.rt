@@ -2,7 +2,7 @@
 // Stays: two buffers side by side, at each function: as C lends them.
 #![tactic(auto)]
 
-ghost use Rattle.std.specs.Prelude.{◌++◌};
+ghost use Rattle.std.specs.Prelude.{◌≡◌, ◌++◌, length};
 ghost use Rattle.book.specs.Answers.{Does};
 ghost use Rattle.book.specs.Lent.{before, after, shown};
 ghost use Rattle.book.specs.declared.Gate.TheVariants as Gate;
@@ -11,7 +11,7 @@ ghost use Rattle.seated.specs.Judging.{Judges, free_tests};
 
 use book::{Answer, Controls, Noise, Refusal};
 use judging::{free_seat, numbers, size};
-use slow::{fill, place_of_pair, place_of_swap};
+use slow::{fill, fill_pairs, place_of_swap};
 use slow_rules::Rule;
 
 // Tests 1 to 3: the size of the outputs, and then the inputs' with a qubit.
@@ -48,6 +48,16 @@ pub fn swap_apply(
     Ok(None)
 }
 
+// A part of the inputs. Stays: a loop: `copy_from_slice` is C's memmove, which the archive would need from outside.
+fn copy(from: &[f64], to: &mut [f64])
+    requires { length from.now ≡ length to.old }
+    ensures { to.new ≡ from.now }
+{
+    for i in 0..to.len() {
+        to[i] = from[i];
+    }
+}
+
 // X without controls if draw <= prob, else nothing, and the outputs are the inputs; the answer is 1 if X ran, 0 if not.
 pub fn bit_flip_noise_apply(
     sr: &[f64],
@@ -63,11 +73,10 @@ pub fn bit_flip_noise_apply(
     judge(sr, si, reals, imags, n, target)?;
     numbers(&[noise.prob, noise.draw])?;
     if noise.draw <= noise.prob {
-        let place = |i| place_of_pair(Rule::X, target, Controls::of(0), sr, si, i);
-        fill(place, n, reals, imags);
+        fill_pairs(Rule::X, n, target, Controls::of(0), sr, si, reals, imags);
         return Ok(Some(1));
     }
-    reals.copy_from_slice(sr);
-    imags.copy_from_slice(si);
+    copy(sr, reals);
+    copy(si, imags);
     Ok(Some(0))
 }

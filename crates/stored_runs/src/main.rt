@@ -6,6 +6,8 @@ use act::{Engine, Fast, Slow};
 use std::rt::Files;
 use std::{env, fs, io};
 
+// By a call of its own: set into its caller, each engine's buffers would lie on the stack at once.
+#[inline(never)]
 fn run_stored<E: Engine, T: Files + Print>(rt: &T, name: &str, heading: &str) -> io::Result<()> {
     println!(rt; "{name}{heading}")?;
     match fs::open(rt, name) {

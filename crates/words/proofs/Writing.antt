@@ -1,18 +1,34 @@
--- Words one behind the other; a line at the start of a buffer; and the fewest decimal digits by recursion. Assumes nothing.
+-- Words one behind the other, byte after byte and run after run; a line at the start of a buffer; and the fewest decimal digits by recursion. Assumes nothing.
 use Prim.Native.Nat.{ℕ, zero, suc, ◌+◌, ◌-◌, ◌*◌, ◌/◌, ◌%◌, ◌^◌, ◌≤◌, ◌<◌}
 use native.Mathlib.Nat.{zero-add, eq-zero-or-pos, one-le-pow, pow-le-pow_right}
+use native.Mathlib.Numerals.{add-one}
 use native.Mathlib.Omega.{arith}
 use mathlib.Core.Logic.{⊎_elim}
 use mathlib.Core.Path.{◌≡◌, refl, sym, ap, ◌∙◌}
 use mathlib.Core.List.{List, [], ◌∷◌, ◌++◌}
 use lib.Ieee.{Float, binary64, to_bits}
-use lib.ListN.{length, drop, length-append}
-use lib.Seq.{length-sets, sets-eq, length-take-le}
+use lib.ListN.{length, drop, get_or, set, length-append, drop_of_length-le}
+use lib.Seq.{sets, length-sets, sets-eq, drop-cons, length-take-le}
 use borrow.Author.Tests.{lt-ltb, le-ltb}
 use Rattle.io.specs.Digits.{hex_digit_ascii, last_digits, IsDigitCount}
 use Rattle.stores.proofs.Stored.{store_then}
 use Rattle.stores.specs.Stores.{store}
 use Rattle.words.specs.Words.{decimal_in, decimal, bits, mark_digits, Added, Line}
+
+-- ---- byte after byte
+
+module _ (words : List ℕ) (at : ℕ) where
+  pub stored_none : (l : List ℕ) (i : ℕ) → length words ≤ i → store l (at + i) (drop i words) ≡ l
+  unfolding store
+  stored_none l i h = ap (λ (ws : List ℕ). sets l (at + i) ws) (drop_of_length-le words {i = i} h)
+
+  pub stored_step : (l : List ℕ) (i : ℕ) → i < length words
+      → store (set l (at + i) (get_or words i 0)) (at + (i + 1)) (drop (i + 1) words) ≡ store l (at + i) (drop i words)
+  unfolding store
+  stored_step l i h =
+      let next : at + (i + 1) ≡ suc (at + i) = omega arith in
+      ap (λ (k : ℕ). sets (set l (at + i) (get_or words i 0)) k (drop (i + 1) words)) next
+      ∙ ap (λ (ws : List ℕ). sets l (at + i) ws) (ap (λ (n : ℕ). get_or words i 0 ∷ drop n words) (add-one i) ∙ sym (drop-cons words i 0 h))
 
 -- ---- run after run
 

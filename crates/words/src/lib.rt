@@ -6,14 +6,16 @@ ghost use Rattle.std.specs.Prelude.{◌+◌, ◌^◌, ◌≤◌, ◌<◌, length
 ghost use Rattle.io.specs.Digits.{last_digits};
 ghost use Rattle.words.specs.Words.{decimal, bits, mark_digits, Added};
 
-use stores::store;
-
 // Stays: a place in the buffer, as in stores; and no `write!`, whose writer could fail for room, where each line is proved to have it.
+// And a loop: `copy_from_slice` is C's memmove, which the archive would need from outside for a frame that comes in two parts.
 pub fn add(out: &mut [u8], at: usize, words: &[u8]) -> usize
     requires { at + length words.now ≤ length out.old }
     ensures { Added words.now (length words.now) out.old at result out.new }
 {
-    store(out, at, words)
+    for i in 0..words.len() {
+        out[at + i] = words[i];
+    }
+    at + words.len()
 }
 
 pub fn add_number(out: &mut [u8], at: usize, n: u64) -> usize

@@ -1,15 +1,8 @@
--- `operands::is_finite` meets its contract: std's test has the same cases. Assumes nothing.
-use mathlib.Core.Path.{◌≡◌, refl, ◌∙◌}
-use lib.Ieee.{Float, nan, inf, fin}
-use lib.Ieee.Scale.{finite}
-use Rattle.std.specs.Float.{float_is_finite}
+-- `operands::is_finite` meets its contract: x - x is NaN unless x is finite. Assumes nothing.
+use mathlib.Core.Bool.{not}
+use mathlib.Core.Path.{ap, ◌∙◌}
+use Rattle.operands.proofs.Finite.{difference_number}
 use Rattle.operands.proofs.is_finite.Goals as goal
 
-same_test : (x : Float) → float_is_finite x ≡ finite x
-unfolding float_is_finite
-same_test nan = refl
-same_test (inf s) = refl
-same_test (fin s m e) = refl
-
 pub returns : goal.returns
-returns c = c.is_finite.ensures.value ∙ same_test c.args.x
+returns c = ap not c.is_nan.ensures.value ∙ difference_number c.args.x

@@ -10,4 +10,6 @@ returns-then-out-at c = let a = c.args in
     record { behind = search rules; stored = sym (store_out a.out.now a.at a.words.now (omega arith)) }
 
 pub returns : goal.returns
-returns c = let a = c.args in put_part a.words.now a.out.now a.at _ (omega arith) c.min-n.ensures c.store.ensures
+returns c = let a = c.args in
+    let p = put_part a.words.now a.out.now a.at _ (omega arith) c.min-n.ensures c.store.ensures in
+    record { behind = omega (arith, p.behind); stored = p.stored }

@@ -1,9 +1,6 @@
 -- `slow_pairs::on_pairs` meets its contract: judged, and then every index by the rule. Assumes nothing.
-use Prim.Native.Nat.{ℕ, ◌^◌, ◌<◌}
-use Rattle.std.proofs.Common.{rules}
 use Rattle.std.proofs.lemmas.Result.{err_from_is_err_and}
 use Rattle.book.specs.Lent.{here, shown_here}
-use Rattle.slow.specs.Slow.{Reaches}
 use Rattle.slow_pairs.proofs.Judged.{outputs, pair_size, pair_seat, pair_own, pair_reaches, pair_done}
 use Rattle.slow_pairs.proofs.on_pairs.Goals as goal
 
@@ -23,14 +20,16 @@ returns-in_err-judge c =
     rw (p.1, p.2)
     (pair_own c.args.rule _ _ _ _ _ c.in_ok-size.ensures (rw c.most.ensures at c.in_ok-seat.ensures) c.in_err-judge.ensures)
 
-pub fill-requires : goal.fill-requires
-fill-requires c =
+pub fill_pairs-requires : goal.fill_pairs-requires
+fill_pairs-requires c =
     let a = c.args in
-    let reach : (i : ℕ) → i < 2 ^ a.n → Reaches a.target a.target (shown_here a.sr a.si) i =
-    pair_reaches a.rule _ _ a.controls (shown_here a.sr a.si) (here a.reals a.imags) c.in_ok-size.ensures (rw c.most.ensures at c.in_ok-seat.ensures) in
-    record { outputs = outputs _ _ c.in_ok-size.ensures; each = search (rules, reach) }
+    let seated = rw c.most.ensures at c.in_ok-seat.ensures in
+    record {
+      outputs = outputs _ _ c.in_ok-size.ensures;
+      inputs = pair_reaches a.rule _ _ a.controls (shown_here a.sr a.si) (here a.reals a.imags) c.in_ok-size.ensures seated;
+    }
 
 pub returns : goal.returns
 returns c =
-    pair_done c.args.rule _ _ c.args.controls _ _ c.in_ok-size.ensures (rw c.most.ensures at c.in_ok-seat.ensures) c.in_ok-judge.ensures c.fill.ensures.size
-    (λ i h. let k = c.fill.ensures.places i h in search rules)
+    let made = c.fill_pairs.ensures in
+    pair_done c.args.rule _ _ c.args.controls _ _ c.in_ok-size.ensures (rw c.most.ensures at c.in_ok-seat.ensures) c.in_ok-judge.ensures made.size made.places

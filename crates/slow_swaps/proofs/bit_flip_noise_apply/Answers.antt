@@ -1,11 +1,10 @@
 -- `slow_swaps::bit_flip_noise_apply` meets its contract: judged with its two numbers, then X at every index, or the inputs copied. Assumes nothing.
 -- Stays: what two answers take by a `let` is of the goal's own record `c`; a lemma would take each of its parts as an argument.
-use Prim.Native.Nat.{ℕ, ◌^◌, ◌<◌}
 use mathlib.Core.Path.{sym, ◌∙◌}
 use Rattle.std.proofs.Common.{rules}
 use Rattle.std.proofs.lemmas.Result.{err_from_is_err_and}
 use Rattle.book.specs.Lent.{here, shown_here}
-use Rattle.slow.specs.Slow.{Reaches, Sized}
+use Rattle.slow.specs.Slow.{Sized}
 use Rattle.slow_swaps.proofs.Judged.{outputs, inputs, flip_kept, flip_number, flip_reaches, flip_ran, flip_not}
 use Rattle.slow_swaps.proofs.bit_flip_noise_apply.Goals as goal
 
@@ -19,33 +18,35 @@ returns-in_err-numbers c =
     let p = err_from_is_err_and c.from_residual-in_err-numbers.result c.from_residual-in_err-numbers.ensures.1 in
     rw (p.1, p.2) (flip_number _ _ c.args.noise _ _ c.in_ok-judge.ensures c.in_err-numbers.ensures)
 
-pub fill-requires : goal.fill-requires
-fill-requires c =
+pub fill_pairs-requires : goal.fill_pairs-requires
+fill_pairs-requires c =
     let a = c.args in
-    let reach : (i : ℕ) → i < 2 ^ a.n → Reaches a.target a.target (shown_here a.sr a.si) i =
-    flip_reaches _ _ a.noise (shown_here a.sr a.si) (here a.reals a.imags) c.in_ok-judge.ensures in
-    record { outputs = outputs _ _ (shown_here a.sr a.si) _ c.in_ok-judge.ensures; each = search (rules, reach) }
+    record {
+      outputs = outputs _ _ (shown_here a.sr a.si) _ c.in_ok-judge.ensures;
+      inputs = flip_reaches _ _ a.noise (shown_here a.sr a.si) (here a.reals a.imags) c.in_ok-judge.ensures;
+    }
 
 pub returns-then-noise : goal.returns-then-noise
 returns-then-noise c =
-    flip_ran _ _ c.args.noise _ _ c.in_ok-judge.ensures c.in_ok-numbers.ensures c.if-noise.true c.fill.ensures.size
-    (λ i h. let k = c.fill.ensures.places i h in search rules)
+    let made = c.fill_pairs.ensures in
+    flip_ran _ _ c.args.noise _ _ c.in_ok-judge.ensures c.in_ok-numbers.ensures c.if-noise.true made.size
+    (λ i h. let k = made.places i h in search (rules, c.of.ensures))
 
-pub copy_from_slice-requires : goal.copy_from_slice-requires
-copy_from_slice-requires c =
+pub copy-requires : goal.copy-requires
+copy-requires c =
     let a = c.args in
     let i : Sized a.n (shown_here a.sr a.si) = inputs _ _ _ (here a.reals a.imags) c.in_ok-judge.ensures in
     let o : Sized a.n (here a.reals a.imags) = outputs _ _ (shown_here a.sr a.si) _ c.in_ok-judge.ensures in
-    o.reals ∙ sym i.reals
+    i.reals ∙ sym o.reals
 
-pub copy_from_slice-requires-2 : goal.copy_from_slice-requires-2
-copy_from_slice-requires-2 c =
+pub copy-requires-2 : goal.copy-requires-2
+copy-requires-2 c =
     let a = c.args in
     let i : Sized a.n (shown_here a.sr a.si) = inputs _ _ _ (here a.reals a.imags) c.in_ok-judge.ensures in
     let o : Sized a.n (here a.reals a.imags) = outputs _ _ (shown_here a.sr a.si) _ c.in_ok-judge.ensures in
-    o.imags ∙ sym i.imags
+    i.imags ∙ sym o.imags
 
 pub returns : goal.returns
 returns c =
-    rw (c.copy_from_slice.ensures.after, c.copy_from_slice-2.ensures.after)
+    rw (c.copy.ensures, c.copy-2.ensures)
     (flip_not _ _ c.args.noise _ _ c.in_ok-judge.ensures c.in_ok-numbers.ensures c.if-noise.false)
